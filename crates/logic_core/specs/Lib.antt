@@ -1,2 +1,7 @@
 pub mod Names
+pub mod Lists
+pub mod Truth
+pub mod Nesting
+pub mod Forms
+pub mod Problems
 pub mod formers

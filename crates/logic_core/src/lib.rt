@@ -2,10 +2,20 @@
 //! them, coherent forms, and structures with what is true in them.
 #![tactic(auto)]
 
+mod form;
+mod formula;
+mod formula_copy;
 mod list;
 mod memory;
 mod name;
+mod problem;
+mod world;
 
+pub use form::{Atom, Form, Slot};
+pub use formula::{Formula, Op, Term};
 pub use list::{Bytes, List};
 pub use memory::Memory;
 pub use name::Name;
+pub use problem::{Fof, Item, Items, Problem, Role};
+pub use sqlite_items::Boxed;
+pub use world::{AnyWorld, World};
