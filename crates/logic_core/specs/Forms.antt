@@ -1,6 +1,6 @@
 -- Coherent forms: when one is well-formed, and when it is true. Source: the coherent formulas of the 2014 paper
 -- "A Vernacular for Coherent Logic".
-use Rattle.std.specs.Prelude.{ℕ, ◌+◌, ◌<◌, ◌≡◌, ◌==◌, zero, suc, Bool, true, false, List, [], ◌∷◌, ◌++◌, map, length, slice_get, slice_index, Option, Some, None}
+use Rattle.std.specs.Prelude.{ℕ, ◌+◌, ◌<◌, ◌≡◌, ◌==◌, zero, suc, Bool, false, List, [], ◌∷◌, ◌++◌, map, length, slice_get, slice_index, Option, Some, None}
 use Rattle.std.specs.List.{AllByRecursion}
 use Rattle.logic_core.specs.Names.{Text}
 use Rattle.logic_core.specs.Lists.{SomeOf}
@@ -91,4 +91,4 @@ module _ (i : Interpretation) where
   -- at all values of the universal variables at which every premise holds, the conclusion is true
   abbrev pub FormTrue : Form → Type 0
   FormTrue form = (universals : List ℕ) → AreElements form.universals universals
-    → AllByRecursion (AtomTrue universals) form.premises → ConclusionTrue form universals
+      → AllByRecursion (AtomTrue universals) form.premises → ConclusionTrue form universals

@@ -1,5 +1,5 @@
 -- Which formulas and items may stand in a problem, and what it means that a problem's conjecture follows.
-use Rattle.std.specs.Prelude.{ℕ, ◌≤◌, ◌≡◌, List, [], ◌∷◌, ◌++◌, Option, Some, None, IsTrue}
+use Rattle.std.specs.Prelude.{◌≤◌, List, [], ◌++◌, Some, None, IsTrue}
 use Rattle.std.specs.List.{AllByRecursion}
 use Rattle.logic_core.specs.Names.{Text, is_upper_word}
 use Rattle.logic_core.specs.Lists.{SomeOf, IsAmong, HasOne}
@@ -73,4 +73,4 @@ IfConjecture _ P = ⊥
 -- if every premise is true in the structure, then the conjecture is. Without a conjecture: not every premise is
 abbrev pub Follows : Structure → List Fof → Type 0
 Follows s problem = AllByRecursion (λ fof. IfPremise fof.role (IsTrueIn s fof.formula [])) problem
-  → SomeOf (λ fof. IfConjecture fof.role (IsTrueIn s fof.formula [])) problem
+    → SomeOf (λ fof. IfConjecture fof.role (IsTrueIn s fof.formula [])) problem

@@ -1,7 +1,6 @@
-use sqlite_items::Boxed;
-
 use crate::list::List;
 use crate::name::Name;
+use sqlite_items::Boxed;
 
 /// A term without function symbols. Source: the TPTP syntax, FOF.
 #[derive(Debug, Drop)]

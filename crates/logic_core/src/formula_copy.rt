@@ -1,14 +1,12 @@
 ghost use Rattle.std.specs.Prelude.{◌≡◌, ◌≤◌, IfOk};
 ghost use Rattle.logic_core.specs.Nesting.{nesting};
 
-use std::alloc::Global;
-
-use sqlite_items::Boxed;
-
 use crate::formula::{Formula, Term};
 use crate::list::List;
 use crate::memory::Memory;
 use crate::name::Name;
+use sqlite_items::Boxed;
+use std::alloc::Global;
 
 impl Formula {
     /// A copy of a formula whose nesting is at most 200; the copy equals the formula. `Memory` is want of

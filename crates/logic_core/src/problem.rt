@@ -2,14 +2,12 @@ ghost use Rattle.std.specs.Prelude.{◌≡◌, [], ◌∷◌, ◌++◌, ◌≤�
 ghost use Rattle.std.specs.List.{AllByRecursion};
 ghost use Rattle.logic_core.specs.Problems.{FofMayStand, ItemMayStand};
 
-use std::alloc::Global;
-use std::marker::Model;
-
-
 use crate::formula::Formula;
 use crate::list::List;
 use crate::memory::Memory;
 use crate::name::Name;
+use std::alloc::Global;
+use std::marker::Model;
 
 /// What a formula of a problem is there for. All but the last are premises. Source: the TPTP syntax.
 #[derive(Clone, Copy, PartialEq, Eq, Debug)]
@@ -38,7 +36,10 @@ pub struct Fof {
 #[derive(Debug, Drop)]
 pub enum Item {
     Fof(Fof),
-    Include { file: Name, only: Option<List<Name>> },
+    Include {
+        file: Name,
+        only: Option<List<Name>>,
+    },
 }
 
 /// The items of a problem's text, in order: each formula is closed, its nesting is at most 200, and no
@@ -59,7 +60,6 @@ impl Model for Items {
     ghost use Rattle.std.specs.Prelude.{List};
     ghost use Rattle.std.specs.List.{AllByRecursion};
     ghost use Rattle.logic_core.specs.declared.problem.Item.{Item};
-
     ghost use Rattle.logic_core.specs.contracts.problem.Item as item;
     ghost use Rattle.std.specs.Coded.{codes};
 
@@ -78,7 +78,6 @@ impl Model for Problem {
     ghost use Rattle.std.specs.Prelude.{List, length, ◌≤◌};
     ghost use Rattle.std.specs.List.{AllByRecursion};
     ghost use Rattle.logic_core.specs.declared.problem.Fof.{Fof};
-
     ghost use Rattle.logic_core.specs.contracts.problem.Fof as fof;
     ghost use Rattle.std.specs.Coded.{codes};
 
