@@ -9,6 +9,8 @@ mod list;
 mod memory;
 mod name;
 mod problem;
+#[cfg(test)]
+mod tests;
 mod world;
 
 pub use form::{Atom, Form, Slot};
