@@ -1,0 +1,66 @@
+ghost use Rattle.std.specs.Prelude.{◌≡◌, ℕ, [], None, IsOk, OnOk, take};
+ghost use Rattle.std.specs.Io.KnownBytes.{Appends};
+
+use crate::count::raised_by;
+use crate::sink::{Sink, SinkFault};
+use std::io::Write;
+use std::marker::Model;
+
+/// A writer as a sink. It tells nothing of what the writer holds.
+#[derive(Drop)]
+pub struct StreamSink<T> {
+    inner: T,
+    faults: u64,
+}
+
+impl<T> Model for StreamSink<T> {
+    ghost use Rattle.std.specs.Prelude.{ℕ};
+
+    ghost Value = { ℕ };
+
+    ghost view = { λ s. s.faults };
+}
+
+impl<T: Write> StreamSink<T> {
+    /// A sink that writes to this writer, with no faults so far. It takes no memory.
+    pub fn new(inner: T) -> StreamSink<T>
+        ensures { result ≡ 0 }
+    {
+        StreamSink { inner, faults: 0 }
+    }
+}
+
+impl<T: Write> Sink for StreamSink<T> {
+    ghost contents = { λ _. None };
+
+    ghost faults = { λ s. s };
+
+    /// As `Sink` says. A write that takes nothing of a piece that is not empty is a fault, as is a failed write
+    /// or flush.
+    fn put(&mut self, piece: &[u8]) -> Result<(), SinkFault> {
+        let written = write_whole(&mut self.inner, piece);
+        if written.is_err() {
+            self.faults = raised_by(self.faults, 1);
+        }
+        written
+    }
+}
+
+// Writes a piece and flushes the writer. An empty piece is not written.
+fn write_whole<T: Write>(writer: &mut T, piece: &[u8]) -> Result<(), SinkFault>
+    ensures appended { OnOk result (Appends (T.contents writer.old) (T.contents writer.new) piece.now) }
+    ensures prefix { (n : ℕ) × Appends (T.contents writer.old) (T.contents writer.new) (take n piece.now) }
+    ensures empty { piece.now ≡ [] → IsOk result }
+{
+    if piece.is_empty() {
+        return Ok(());
+    }
+    let mut at = 0;
+    while at < piece.len() {
+        match writer.write(&piece[at..]) {
+            Ok(count) if count > 0 => at += count,
+            _ => return Err(SinkFault),
+        }
+    }
+    writer.flush().map_err(|_| SinkFault)
+}
