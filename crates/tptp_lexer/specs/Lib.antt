@@ -1,0 +1,6 @@
+pub mod Kinds
+pub mod Tokens
+pub mod Refused
+pub mod Scanning
+pub mod Spans
+pub mod Stored

@@ -1,0 +1,25 @@
+//! The tokens of a text: those of the TPTP's first-order form, which every text that Hogbygone reads is made of.
+#![tactic(auto)]
+
+mod byte;
+mod comment;
+mod kind;
+mod laws;
+mod lexer;
+mod mark;
+mod name;
+mod piece;
+mod quote;
+mod refusal;
+#[cfg(test)]
+mod tests;
+mod token_list;
+
+pub use kind::Kind;
+pub use laws::{
+    never_tokens_and_refusal, one_first_refused_place, one_list_of_tokens, tokens_in_order,
+    tokens_or_refusal,
+};
+pub use lexer::tokens;
+pub use refusal::LexRefusal;
+pub use token_list::Tokens;
