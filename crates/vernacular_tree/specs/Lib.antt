@@ -1,3 +1,9 @@
 pub mod Contexts
 pub mod Rules
 pub mod Sizes
+pub mod Tasks
+pub mod Preorders
+pub mod Readings
+pub mod Barren
+pub mod Carries
+pub mod Witnessed

@@ -1,0 +1,11 @@
+pub mod Lists
+pub mod Numbers
+pub mod Facts
+pub mod Truths
+pub mod Rows
+pub mod Trees
+pub mod Lowered
+pub mod Images
+pub mod Carrying
+pub mod Kept
+pub mod Splits
