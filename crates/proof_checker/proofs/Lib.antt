@@ -1,0 +1,10 @@
+pub mod Fronts
+pub mod Steps
+pub mod Complete
+pub mod Sound
+pub mod SoundSteps
+pub mod Numbered
+pub mod Acceptance
+pub mod Truth
+pub mod Texts
+pub mod Read

@@ -1,0 +1,15 @@
+//! Checks proofs of ground problems: problems whose formulas are atoms without variables, and proofs that cite
+//! their axioms one after another.
+#![tactic(auto)]
+
+mod check;
+mod ground;
+mod laws;
+mod reader;
+mod words;
+
+pub use check::{FirstRefusal, check_first};
+pub use ground::{CitedFact, GroundAtom, GroundFormula};
+pub use laws::accepted_follows;
+pub use reader::{read_ground_problem, read_ground_proof};
+pub use words::NotRead;

@@ -1,0 +1,97 @@
+ghost use Rattle.std.specs.Prelude.{◌≡◌, option_map};
+ghost use Rattle.std.specs.List.{list_all};
+ghost use Rattle.std.specs.Str.{bytes_eq};
+ghost use Rattle.logic_core.specs.Names as names;
+ghost use Rattle.proof_checker.specs.Reading.{Gives, after, word_from};
+
+use logic_core::{Bytes, Memory};
+use std::alloc::Global;
+
+/// Why a text was not read: its form is not built yet, or there was no memory.
+#[derive(Debug, Drop)]
+pub enum NotRead {
+    NotBuilt,
+    Memory,
+}
+
+impl From<Memory> for NotRead {
+    ghost use Rattle.proof_checker.specs.declared.words.NotRead.{NotRead};
+
+    ghost from_gives = { λ _ fault. fault ≡ NotRead.Memory };
+
+    fn from(_want: Memory) -> NotRead {
+        NotRead::Memory
+    }
+}
+
+fn is_lower(byte: u8) -> bool
+    ensures { result ≡ names.is_lower byte }
+{
+    b'a' <= byte && byte <= b'z'
+}
+
+fn goes_on(byte: u8) -> bool
+    ensures { result ≡ names.is_word byte }
+{
+    is_lower(byte)
+        || (b'A' <= byte && byte <= b'Z')
+        || (b'0' <= byte && byte <= b'9')
+        || byte == b'_'
+}
+
+fn all_go_on(bytes: &[u8]) -> bool
+    ensures { result ≡ list_all names.is_word bytes.now }
+{
+    bytes.iter().all(|byte| goes_on(*byte))
+}
+
+fn is_word(text: &[u8]) -> bool
+    ensures { result ≡ names.is_word_from names.is_lower text.now }
+{
+    match text {
+        [] => false,
+        [first, rest @ ..] => is_lower(*first) && all_go_on(rest),
+    }
+}
+
+/// What is left after a text, where the texts begin with it.
+pub(crate) fn after<'a>(texts: &'a [Bytes], wanted: &[u8]) -> Option<&'a [Bytes]>
+    ensures { option_map (λ rest. rest.now) result ≡ after wanted.now texts.now }
+{
+    match texts {
+        [] => None,
+        [text, rest @ ..] => {
+            if text.as_slice() == wanted {
+                Some(rest)
+            } else {
+                None
+            }
+        }
+    }
+}
+
+/// What is left after a text, with which the texts have to begin.
+pub(crate) fn skip<'a>(texts: &'a [Bytes], wanted: &[u8]) -> Result<&'a [Bytes], NotRead>
+    ensures { Gives (λ rest. rest.now) result (after wanted.now texts.now) }
+{
+    match after(texts, wanted) {
+        Some(rest) => Ok(rest),
+        None => Err(NotRead::NotBuilt),
+    }
+}
+
+/// A word that begins with a to z, and what is left after it.
+pub(crate) fn word(alloc: Global, texts: &[Bytes]) -> Result<(Bytes, &[Bytes]), NotRead>
+    ensures { Gives (λ read. (read.0, read.1.now)) result (word_from texts.now) }
+{
+    match texts {
+        [] => Err(NotRead::NotBuilt),
+        [text, rest @ ..] => {
+            if !is_word(text.as_slice()) {
+                return Err(NotRead::NotBuilt);
+            }
+            let word = Bytes::from_slice(alloc, text.as_slice())?;
+            Ok((word, rest))
+        }
+    }
+}
