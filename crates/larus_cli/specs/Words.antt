@@ -1,0 +1,11 @@
+-- Which words are which command.
+use Rattle.std.specs.Prelude.{Bool, true, false, if◌then◌else◌, List, [], ◌∷◌, Option, Some, None, codes}
+use Rattle.std.specs.Str.{bytes_eq}
+use Rattle.logic_core.specs.Names.{Text}
+use Rattle.larus_cli.specs.declared.command.Command.{Command}
+use Rattle.larus_cli.specs.declared.command.Command.TheVariants.{Check}
+
+-- `check PROBLEM PROOF`, with any words for the two names; all other lists are no command
+abbrev pub command_of : List Text → Option Command
+command_of (first ∷ problem ∷ proof ∷ []) = if bytes_eq first (codes "check") then Some Check else None
+command_of _ = None

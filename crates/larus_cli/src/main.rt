@@ -1,0 +1,37 @@
+//! Hogbygone: a checker for proofs in coherent logic, as a program.
+#![tactic(auto)]
+
+use io_core::{RealFiles, StreamSink};
+use logic_core::AnyWorld;
+use std::process::ExitCode;
+
+mod arguments;
+mod command;
+mod decide;
+mod report;
+mod run;
+#[cfg(test)]
+mod tests;
+
+pub use command::{Command, read_words};
+pub use report::{FileRefusal, Report, message};
+pub use run::run;
+
+/// The status for want of memory.
+const OUT_OF_MEMORY: u8 = 71;
+
+fn main(rt: HostRuntime) -> ExitCode {
+    let Ok(words) = arguments::words(&rt, rt.alloc()) else {
+        return ExitCode::from(OUT_OF_MEMORY);
+    };
+    let mut files = RealFiles::new(&rt);
+    let mut out = StreamSink::new(rt.stdout());
+    let mut errs = StreamSink::new(rt.stderr());
+    ExitCode::from(run::run::<AnyWorld, _, _, _>(
+        rt.alloc(),
+        words.as_slice(),
+        &mut files,
+        &mut out,
+        &mut errs,
+    ))
+}

@@ -1,0 +1,1 @@
+fof(a1,axiom,p(c)). fof(g,conjecture,p(c)).
