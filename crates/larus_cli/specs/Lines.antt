@@ -1,5 +1,5 @@
 -- What the program prints, and with which status it ends.
-use Rattle.std.specs.Prelude.{ℕ, Bool, true, false, List, [], ◌∷◌, ◌++◌, codes}
+use Rattle.std.specs.Prelude.{ℕ, Bool, true, false, [], ◌∷◌, ◌++◌, codes}
 use Rattle.std.specs.Fmt.{decimal}
 use Rattle.logic_core.specs.Names.{Text}
 use Rattle.larus_cli.specs.declared.report.FileRefusal.{FileRefusal}

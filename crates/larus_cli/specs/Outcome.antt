@@ -1,16 +1,14 @@
 -- How a run of the program ends: what its answer says of the files, where the answer goes, and what causes each status.
-use Rattle.std.specs.Prelude.{ℕ, ◌≡◌, ◌≢◌, ◌≤◌, ◌⊎◌, ◌++◌, Bool, true, false, List, [], ◌∷◌, length, Option, Some, None, IfSome, codes, map}
+use Rattle.std.specs.Prelude.{ℕ, ◌≡◌, ◌≢◌, ◌≤◌, ◌⊎◌, ◌++◌, true, false, List, [], ◌∷◌, length, Option, Some, None, IfSome, codes, map}
 use Rattle.std.specs.FinMap as finite
 use Rattle.logic_core.specs.Names.{Text}
 use Rattle.logic_core.specs.Truth.{Structure}
 use Rattle.logic_core.specs.Problems.{Follows}
-use Rattle.logic_core.specs.declared.problem.Fof.{Fof}
 use Rattle.io_core.specs.Causes.{Held, Rose, IsLong, AppendsPrefix}
 use Rattle.proof_checker.specs.declared.ground.GroundFormula.{GroundFormula}
 use Rattle.proof_checker.specs.declared.ground.CitedFact.{CitedFact}
 use Rattle.proof_checker.specs.Ground.{IsGroundProblem, IsGroundProof, fof_of}
 use Rattle.proof_checker.specs.Accepted.{AcceptsWith, Refuses}
-use Rattle.larus_cli.specs.declared.report.FileRefusal.{FileRefusal}
 use Rattle.larus_cli.specs.declared.report.FileRefusal.TheVariants.{FileFault, FileTooLong, NotBuilt}
 use Rattle.larus_cli.specs.declared.report.Report.{Report}
 use Rattle.larus_cli.specs.declared.report.Report.TheVariants.{Accepted, Refused, ProblemFile, ProofFile}

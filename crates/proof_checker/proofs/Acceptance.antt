@@ -1,5 +1,5 @@
 -- The check accepts exactly the proofs that stand for a vernacular proof of the task.
-use Rattle.std.specs.Prelude.{◌≡◌, ◌≢◌, ◌⊎◌, ◌+◌, ◌<◌, ℕ, zero, suc, Bool, true, false, ◌&&◌, ◌||◌, if◌then◌else◌, List, [], ◌∷◌, ◌++◌, map, length, take, slice_get, Option, Some, None, refl}
+use Rattle.std.specs.Prelude.{◌≡◌, ◌≢◌, ◌⊎◌, ◌+◌, ℕ, zero, suc, Bool, true, false, ◌&&◌, ◌||◌, if◌then◌else◌, List, [], ◌∷◌, ◌++◌, map, length, take, slice_get, Option, Some, None, refl}
 use Rattle.std.specs.List.{AllByRecursion}
 use Rattle.std.specs.Cmp.Lexicographic.{pointwise}
 use Rattle.std.specs.Option.{option_map}
@@ -11,13 +11,10 @@ use Rattle.logic_core.specs.Lists.{SomeOf, IsAmong}
 use Rattle.logic_core.specs.Forms.{Tables}
 use Rattle.logic_core.specs.declared.form.Atom.{Atom}
 use Rattle.logic_core.specs.declared.form.Form.{Form}
-use Rattle.logic_core.specs.declared.form.Slot.{Slot}
 use Rattle.logic_core.specs.declared.form.Slot.TheVariants.{Constant}
-use Rattle.vernacular_tree.specs.Contexts.{Task, slot_at, atom_at, line_of, LineHas, Stands, start_context, after_mp, parameters}
-use Rattle.vernacular_tree.specs.Rules.{AreKnown, IsInstance, IsAnswer, StepsThen, Closes, Proves}
+use Rattle.vernacular_tree.specs.Contexts.{slot_at, atom_at, LineHas, Stands, start_context, after_mp, parameters}
+use Rattle.vernacular_tree.specs.Rules.{StepsThen, Closes}
 use Rattle.vernacular_tree.specs.declared.context.Context.{Context}
-use Rattle.vernacular_tree.specs.declared.context.Line.{Line}
-use Rattle.vernacular_tree.specs.declared.context.Line.TheVariants.{Facts}
 use Rattle.vernacular_tree.specs.declared.tree.Mp.{Mp}
 use Rattle.vernacular_tree.specs.declared.tree.Body.{Body}
 use Rattle.vernacular_tree.specs.declared.tree.End.{End, As}
@@ -27,7 +24,7 @@ use Rattle.proof_checker.specs.declared.ground.GroundFormula.{GroundFormula}
 use Rattle.proof_checker.specs.declared.ground.CitedFact.{CitedFact}
 use Rattle.proof_checker.specs.Ground.{is_premise, axioms_of, goals_of, IsGroundProof}
 use Rattle.proof_checker.specs.Tasks.{tables_of, place_of, atom_of, form_of, goal_form, task_of}
-use Rattle.proof_checker.specs.Accepted.{StepStands, StepsStand, IsAccepted, AcceptsWith, Refuses}
+use Rattle.proof_checker.specs.Accepted.{StepsStand, IsAccepted, AcceptsWith, Refuses}
 use Rattle.proof_checker.specs.Checking.{atom_eq, first, cited_atom, shows, accepts}
 use Rattle.proof_checker.proofs.Numbered.{IsIn, atom_same, is_in, texts_told, both}
 

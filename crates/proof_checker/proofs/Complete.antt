@@ -1,17 +1,14 @@
 -- What is spelled is read.
-use Rattle.std.specs.Prelude.{◌≡◌, ◌≤◌, ℕ, zero, suc, Bool, true, false, List, [], ◌∷◌, ◌++◌, length, Option, Some, None, refl, codes}
+use Rattle.std.specs.Prelude.{◌≡◌, ◌≤◌, ℕ, zero, suc, List, [], ◌∷◌, ◌++◌, length, Some, None, refl, codes}
 use Rattle.std.specs.List.{AllByRecursion}
-use Rattle.std.specs.Str.{bytes_eq}
-use Rattle.std.proofs.Common.{ap, sym, append_assoc, append-nil, ◌∙◌, arith}
-use Rattle.std.proofs.lemmas.Slice.Eq.{bytes_eq-Decides}
-use Rattle.logic_core.specs.Names.{Text, is_lower, is_word_from}
+use Rattle.std.proofs.Common.{append_assoc, arith}
+use Rattle.logic_core.specs.Names.{Text}
 use Rattle.logic_core.specs.declared.problem.Role.{Role}
 use Rattle.logic_core.specs.declared.problem.Role.TheVariants.{Axiom, Conjecture, Hypothesis, Definition, Assumption, Lemma, Theorem, Corollary, NegatedConjecture}
-use Rattle.proof_checker.specs.declared.ground.GroundAtom.{GroundAtom}
 use Rattle.proof_checker.specs.declared.ground.GroundFormula.{GroundFormula}
 use Rattle.proof_checker.specs.declared.ground.CitedFact.{CitedFact}
-use Rattle.proof_checker.specs.Ground.{IsWord, HasWords, IsGroundRole, IsGround, IsCited, listed, args_texts, atom_texts, formula_texts, problem_texts, role_text, step_texts, steps_texts, proof_texts}
-use Rattle.proof_checker.specs.Reading.{Read, with_front, after, word_from, args_from, atom_from, formula_behind, formula_from, formulas_from, step_behind, step_from, steps_from, proof_from}
+use Rattle.proof_checker.specs.Ground.{IsWord, IsGroundRole, IsGround, IsCited, listed, args_texts, atom_texts, formula_texts, problem_texts, role_text, steps_texts, proof_texts}
+use Rattle.proof_checker.specs.Reading.{after, args_from, atom_from, formula_behind, formula_from, formulas_from, step_from, steps_from, proof_from}
 
 args_complete : (x : Text) (xs rest : List Text) → IsWord x → AllByRecursion IsWord xs → args_from (listed (x ∷ xs) ++ codes ")" ∷ rest) ≡ Some (x ∷ xs, rest)
 args_complete x [] rest w ws = rw w

@@ -1,5 +1,5 @@
 -- Whole problems and proofs: what is read is the one value that the texts spell.
-use Rattle.std.specs.Prelude.{◌≡◌, ◌≤◌, ◌+◌, ◌==◌, cond, ℕ, zero, suc, Bool, true, false, not, ◌&&◌, if◌then◌else◌, nat_le, List, [], ◌∷◌, length, count_by, Option, Some, None, Result, Ok, Err, IfOk, MatchResult, refl}
+use Rattle.std.specs.Prelude.{◌≡◌, ◌≤◌, ◌+◌, ◌==◌, cond, ℕ, zero, suc, Bool, true, false, not, if◌then◌else◌, nat_le, List, [], ◌∷◌, length, count_by, Option, Some, None, Result, Ok, Err, IfOk, MatchResult, refl}
 use Rattle.std.specs.List.{AllByRecursion, list_all}
 use Rattle.std.specs.Option.{option_and_then}
 use Rattle.std.proofs.lemmas.List.Recursion.{is_count_by}

@@ -1,5 +1,5 @@
 -- What is read is spelled.
-use Rattle.std.specs.Prelude.{◌≡◌, ◌≤◌, ◌+◌, ℕ, zero, suc, Bool, true, false, if◌then◌else◌, List, [], ◌∷◌, ◌++◌, length, Option, Some, None, refl, codes}
+use Rattle.std.specs.Prelude.{◌≡◌, ◌≤◌, ℕ, zero, suc, Bool, true, false, if◌then◌else◌, List, [], ◌∷◌, ◌++◌, length, Option, Some, None, refl, codes}
 use Rattle.std.specs.List.{AllByRecursion}
 use Rattle.std.specs.Option.{option_and_then}
 use Rattle.std.specs.Str.{bytes_eq}
@@ -10,9 +10,8 @@ use Rattle.logic_core.specs.declared.problem.Role.{Role}
 use Rattle.logic_core.specs.declared.problem.Role.TheVariants.{Axiom, Conjecture}
 use Rattle.proof_checker.specs.declared.ground.GroundAtom.{GroundAtom}
 use Rattle.proof_checker.specs.declared.ground.GroundFormula.{GroundFormula}
-use Rattle.proof_checker.specs.declared.ground.CitedFact.{CitedFact}
-use Rattle.proof_checker.specs.Ground.{IsWord, HasWords, IsGroundRole, IsGround, IsCited, listed, args_texts, atom_texts, formula_texts, problem_texts, role_text, step_texts, steps_texts, proof_texts}
-use Rattle.proof_checker.specs.Reading.{Read, with_front, after, word_from, args_step, args_from, atom_with_args, atom_behind, atom_from, role_from, formula_end, formula_behind, formula_from, formulas_from, empty_list, end_from, closing, closed, step_end, step_behind, step_from, step_or_end, steps_from, proof_from}
+use Rattle.proof_checker.specs.Ground.{IsWord, HasWords, IsGroundRole, IsGround, listed, args_texts, atom_texts, formula_texts, problem_texts, role_text}
+use Rattle.proof_checker.specs.Reading.{Read, with_front, after, word_from, args_step, args_from, atom_with_args, atom_behind, atom_from, role_from, formula_end, formula_behind, formula_from, formulas_from, closed}
 use Rattle.proof_checker.proofs.Fronts.{chosen}
 
 -- a chain that gives something gave something at each step

@@ -1,5 +1,5 @@
 -- What is read of a proof is spelled.
-use Rattle.std.specs.Prelude.{◌≡◌, ◌≤◌, ◌+◌, ℕ, zero, suc, List, [], ◌∷◌, ◌++◌, length, Option, Some, None, refl, codes}
+use Rattle.std.specs.Prelude.{◌≡◌, ◌≤◌, ℕ, zero, suc, List, [], ◌∷◌, ◌++◌, length, Option, Some, None, refl, codes}
 use Rattle.std.specs.List.{AllByRecursion}
 use Rattle.std.specs.Option.{option_and_then}
 use Rattle.std.proofs.Common.{ap, sym, append_assoc, ◌∙◌, arith, subst}
@@ -7,7 +7,7 @@ use Rattle.logic_core.specs.Names.{Text}
 use Rattle.proof_checker.specs.declared.ground.GroundAtom.{GroundAtom}
 use Rattle.proof_checker.specs.declared.ground.CitedFact.{CitedFact}
 use Rattle.proof_checker.specs.Ground.{IsWord, IsCited, atom_texts, step_texts, steps_texts, proof_texts}
-use Rattle.proof_checker.specs.Reading.{Read, with_front, after, word_from, atom_from, empty_list, end_from, closing, closed, step_end, step_behind, step_from, step_or_end, steps_from, proof_from}
+use Rattle.proof_checker.specs.Reading.{with_front, after, word_from, atom_from, empty_list, end_from, closing, closed, step_end, step_behind, step_from, step_or_end, steps_from, proof_from}
 use Rattle.proof_checker.proofs.Sound.{bound, some_same, after_is, word_is, AtomRead, atom_sound, front_is}
 
 list_is : (ts rest : List Text) → empty_list ts ≡ Some rest → ts ≡ codes "[" ∷ codes "]" ∷ rest

@@ -1,5 +1,5 @@
 -- A list, item by item.
-use Rattle.std.specs.Prelude.{◌≡◌, ◌+◌, ℕ, zero, suc, List, [], ◌∷◌, ◌++◌, take, slice_get, Some, refl}
+use Rattle.std.specs.Prelude.{◌≡◌, ◌+◌, ℕ, zero, suc, List, [], ◌∷◌, ◌++◌, take, slice_get, Some}
 use Rattle.std.proofs.Common.{ap, add-one}
 
 some_same : {X : Type 0} {x y : X} → Some x ≡ Some y → x ≡ y

@@ -1,5 +1,5 @@
 -- What is accepted is true: the goal of a ground problem follows from its axioms.
-use Rattle.std.specs.Prelude.{◌≡◌, ◌+◌, ◌<◌, ℕ, zero, suc, max, Bool, true, false, if◌then◌else◌, List, [], ◌∷◌, ◌++◌, map, length, slice_get, Some, refl}
+use Rattle.std.specs.Prelude.{◌≡◌, ◌+◌, ℕ, Bool, true, false, if◌then◌else◌, List, [], ◌∷◌, ◌++◌, map, length, slice_get, Some, refl}
 use Rattle.std.specs.List.{AllByRecursion}
 use Rattle.std.specs.Str.{bytes_eq}
 use Rattle.std.proofs.Common.{ap, sym, ◌∙◌, inl, inr, subst, arith}
@@ -7,7 +7,7 @@ use Rattle.std.proofs.lemmas.Option.{slice_get_within}
 use Rattle.logic_core.specs.Names.{Text}
 use Rattle.logic_core.specs.Lists.{SomeOf, IsAmong}
 use Rattle.logic_core.specs.Truth.{Structure, term_value, IsTrueIn}
-use Rattle.logic_core.specs.Forms.{Symbol, Tables, Interpretation, SlotIsBelow, AtomIsBelow, IsWellFormed, interpretation, holds_by_name, text_or_empty, slot_value, AtomTrue, AreElements, ConclusionTrue, FormTrue}
+use Rattle.logic_core.specs.Forms.{SlotIsBelow, IsWellFormed, interpretation, holds_by_name, text_or_empty, slot_value, AtomTrue, AreElements, ConclusionTrue, FormTrue}
 use Rattle.logic_core.specs.Problems.{IfPremise, IfConjecture, Follows}
 use Rattle.logic_core.specs.declared.formula.Term.TheVariants.{Constant as ConstantTerm}
 use Rattle.logic_core.specs.declared.form.Form.{Form}
@@ -15,15 +15,13 @@ use Rattle.logic_core.specs.declared.form.Slot.TheVariants.{Constant}
 use Rattle.logic_core.specs.declared.problem.Role.{Role}
 use Rattle.logic_core.specs.declared.problem.Role.TheVariants.{Axiom, Conjecture, Hypothesis, Definition, Assumption, Lemma, Theorem, Corollary, NegatedConjecture}
 use Rattle.vernacular_tree.specs.declared.tree.Body.{Body}
-use Rattle.vernacular_tree.specs.Contexts.{Task}
 use Rattle.vernacular_tree.specs.Tasks.{IsTask}
-use Rattle.vernacular_tree.specs.Rules.{Proves}
 use Rattle.vernacular_tree.proofs.Truths.{goal_true}
 use Rattle.proof_checker.specs.declared.ground.GroundAtom.{GroundAtom}
 use Rattle.proof_checker.specs.declared.ground.GroundFormula.{GroundFormula}
 use Rattle.proof_checker.specs.declared.ground.CitedFact.{CitedFact}
 use Rattle.proof_checker.specs.Ground.{fof_of, is_premise, axioms_of, goals_of}
-use Rattle.proof_checker.specs.Tasks.{tables_of, place_of, symbol_eq, symbol_of, atom_of, form_of, goal_form, task_of}
+use Rattle.proof_checker.specs.Tasks.{tables_of, place_of, atom_of, form_of, task_of}
 use Rattle.proof_checker.specs.Accepted.{IsAccepted}
 use Rattle.proof_checker.proofs.Numbered.{IsIn, is_in}
 use Rattle.proof_checker.proofs.Acceptance.{goal_is, goal_among}

@@ -1,6 +1,6 @@
 -- Ground problems and ground proofs: what their texts are, by the values that they spell. A problem's formulas are
 -- atoms without variables, after the TPTP syntax; a proof cites axioms and ends with the goal.
-use Rattle.std.specs.Prelude.{ℕ, ◌≤◌, ◌≡◌, Bool, true, false, if◌then◌else◌, List, [], ◌∷◌, ◌++◌, length, map, codes}
+use Rattle.std.specs.Prelude.{◌≤◌, ◌≡◌, Bool, true, false, if◌then◌else◌, List, [], ◌∷◌, ◌++◌, length, map, codes}
 use Rattle.std.specs.List.{AllByRecursion}
 use Rattle.logic_core.specs.Names.{Text, is_lower, is_word_from}
 use Rattle.logic_core.specs.declared.formula.Term.TheVariants.{Constant}

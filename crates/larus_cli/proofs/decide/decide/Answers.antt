@@ -1,4 +1,3 @@
-use Rattle.std.proofs.Common.{ap, Err, sym}
 use Rattle.larus_cli.proofs.Reports.{problem_not_built}
 use Rattle.larus_cli.proofs.decide.decide.Goals as goal
 

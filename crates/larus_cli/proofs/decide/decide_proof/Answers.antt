@@ -1,4 +1,4 @@
-use Rattle.std.proofs.Common.{ap, Err, sym}
+use Rattle.std.proofs.Common.{ap, Err}
 use Rattle.larus_cli.proofs.Reports.{proof_not_built}
 use Rattle.larus_cli.proofs.decide.decide_proof.Goals as goal
 

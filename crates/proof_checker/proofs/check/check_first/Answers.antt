@@ -1,4 +1,4 @@
-use Rattle.std.proofs.Common.{◌≡◌, ◌+◌, length, true, false, Some, arith, rules, sym}
+use Rattle.std.proofs.Common.{◌≡◌, ◌+◌, length, true, false, Some, arith, rules}
 use Rattle.std.proofs.lemmas.Grind.{common_steps}
 use Rattle.proof_checker.specs.Ground.{goals_of}
 use Rattle.proof_checker.specs.Checking.{first, accepts}
