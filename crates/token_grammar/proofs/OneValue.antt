@@ -1,0 +1,255 @@
+-- A text of a predictive grammar has no more than one value: the alternatives and the splits of its tokens are settled.
+use Rattle.std.proofs.Common.{◌≡◌, refl, sym, ◌∙◌, ap, subst, ℕ, zero, suc, true, false, cond, not, ◌⊎◌, inl, inr, List, [], ◌∷◌, ◌++◌, append_assoc, append-nil}
+use Rattle.std.specs.Prelude.{Option, Some, None}
+use Rattle.std.proofs.Math.Bool.{Bool-set}
+use Rattle.std.proofs.lemmas.Bool.{false≢true, and_parts, both_ways, not-true, or_left, or_right}
+use Rattle.std.proofs.lemmas.List.{append_cancel_left}
+use Rattle.token_grammar.specs.Grammar.{Grammar, Spelled}
+use Rattle.logic_core.specs.Lists.{IsAmong}
+use Rattle.token_grammar.specs.Taken.{Taken}
+use Rattle.token_grammar.specs.Taken.Taken.{stop, token, part}
+use Rattle.token_grammar.specs.Plan.{Plan, IsPredictive, is_first, one_less, is_empty, has_empty, all_nullable, rows_pass, asks, choice_passes, follow_passes}
+use Rattle.token_grammar.specs.Values.{Place, element, RowValues, SpellsRow, Making, IsSpelling}
+use Rattle.token_grammar.proofs.Predicted.{Safe, implied, takes_alone, choices_pass, asks_taken, predicted_taken, safe_replaced, no_nullable, taken_nullable}
+use Rattle.token_grammar.proofs.Leaves.{leaves_start}
+use Rattle.token_grammar.proofs.Spelling.{joined, join_spelled, taken_spelled}
+use Rattle.token_grammar.proofs.OfValues.{place_among, element_among, first_spells}
+
+none_after_first : (number : Option ℕ) → is_first number ≡ true → one_less number ≡ None
+none_after_first None h = refl
+none_after_first (Some zero) h = refl
+none_after_first (Some (suc n)) h = absurd (false≢true h)
+
+place_empty : {A : Type 0} (rows : List (List A)) (place : Place rows) → is_empty (element rows place) ≡ true → has_empty rows ≡ true
+place_empty [] place h = absurd place
+place_empty (row ∷ rows) (inl here) h = or_left _ _ h
+place_empty (row ∷ rows) (inr place) h = or_right _ _ (place_empty rows place h)
+
+no_tokens_left : {A : Type 0} (xs ys : List A) → xs ++ ys ≡ [] → xs ≡ []
+no_tokens_left [] ys e = refl
+no_tokens_left (x ∷ xs) ys e = cc
+
+module _ {P T : Type 0} (g : Grammar P T) (plan : Plan P T) where
+  none_asks : (p : P) (t : T) (rows : List (List P)) → choice_passes g plan p t None rows ≡ true → (place : Place rows) →
+      asks g plan p t (element rows place) ≡ true → ⊥
+  none_asks p t [] h place asked = place
+  none_asks p t (row ∷ rows) h (inl here) asked = both_ways _ (not-true _ (and_parts _ _ h).0) asked
+  none_asks p t (row ∷ rows) h (inr place) asked =
+      none_asks p t rows (and_parts (follow_passes g plan p t row) _ (and_parts _ _ h).1).1 place asked
+
+  -- a token asks for one alternative at most
+  asked_once : (p : P) (t : T) (number : Option ℕ) (rows : List (List P)) → choice_passes g plan p t number rows ≡ true →
+      (i j : Place rows) → asks g plan p t (element rows i) ≡ true → asks g plan p t (element rows j) ≡ true → i ≡ j
+  asked_once p t number [] h i j first second = absurd i
+  asked_once p t number (row ∷ rows) h (inl here) (inl there) first second = refl
+  asked_once p t number (row ∷ rows) h (inl here) (inr j) first second =
+      let (choice, more) = and_parts _ _ h in
+      let later = (and_parts (follow_passes g plan p t row) _ more).1 in
+      let none = none_after_first number (implied _ _ choice first) in
+      absurd (none_asks p t rows (subst (λ n. choice_passes g plan p t n rows ≡ true) none later) j second)
+  asked_once p t number (row ∷ rows) h (inr i) (inl there) first second =
+      let (choice, more) = and_parts _ _ h in
+      let later = (and_parts (follow_passes g plan p t row) _ more).1 in
+      let none = none_after_first number (implied _ _ choice second) in
+      absurd (none_asks p t rows (subst (λ n. choice_passes g plan p t n rows ≡ true) none later) i first)
+  asked_once p t number (row ∷ rows) h (inr i) (inr j) first second =
+      let later = (and_parts (follow_passes g plan p t row) _ (and_parts _ _ h).1).1 in
+      ap inr (asked_once p t (one_less number) rows later i j first second)
+
+  one_empty : (row : List P) (rows : List (List P)) → cond (is_empty row) (not (has_empty rows)) (not (all_nullable g row)) ≡ true →
+      is_empty row ≡ true → has_empty rows ≡ false
+  one_empty [] rows h e = not-true _ h
+  one_empty (q ∷ row) rows h e = absurd (false≢true e)
+
+  -- one alternative at most is empty
+  empty_once : (most : ℕ) (rows : List (List P)) → rows_pass g plan most rows ≡ true → (i j : Place rows) →
+      is_empty (element rows i) ≡ true → is_empty (element rows j) ≡ true → i ≡ j
+  empty_once most [] h i j first second = absurd i
+  empty_once most (row ∷ rows) h (inl here) (inl there) first second = refl
+  empty_once most (row ∷ rows) h (inl here) (inr j) first second =
+      absurd (both_ways _ (one_empty row rows (and_parts _ _ h).0 first) (place_empty rows j second))
+  empty_once most (row ∷ rows) h (inr i) (inl there) first second =
+      absurd (both_ways _ (one_empty row rows (and_parts _ _ h).0 second) (place_empty rows i first))
+  empty_once most (row ∷ rows) h (inr i) (inr j) first second =
+      ap inr (empty_once most rows (and_parts _ _ (and_parts _ _ h).1).1 i j first second)
+
+nothing_taken : {P T : Type 0} {g : Grammar P T} {us : List T} {takers : List P} → Taken g true [] us takers → us ≡ []
+nothing_taken (stop h) = refl
+
+module _ {P T : Type 0} (g : Grammar P T) (plan : Plan P T) (law : IsPredictive g plan) where
+  token_first : (p : P) (row : List P) (t : T) {us : List T} {takers : List P} → g.takes p t ≡ true → Taken g true (p ∷ row) us takers →
+      (u : T) × (rest : List T) × (later : List P) × (us ≡ u ∷ rest) × Taken g true row rest later
+  token_first p row t h (stop leave) = absurd leave
+  token_first p row t h (token {t = u} {ts = ts} {takers = later} k rest) = (u, ts, later, refl, rest)
+  token_first p row t h (part alternative a rest) = absurd (takes_alone g plan law p t alternative h a)
+
+  part_first : (p : P) (row alternative : List P) {us : List T} {takers : List P} → IsAmong alternative (g.alternatives p) →
+      Taken g true (p ∷ row) us takers → (other : List P) × IsAmong other (g.alternatives p) × Taken g true (other ++ row) us takers
+  part_first p row alternative a (stop leave) = absurd leave
+  part_first p row alternative a (token {t = u} h rest) = absurd (takes_alone g plan law p u alternative h a)
+  part_first p row alternative a (part other b rest) = (other, b, rest)
+
+  same_alternative : (p : P) (row first second : List P) → Safe g plan (p ∷ row) → IsAmong first (g.alternatives p) →
+      IsAmong second (g.alternatives p) → (all : List T) (ps qs : List P) → Taken g true (first ++ row) all ps →
+      Taken g true (second ++ row) all qs → (all ≡ []) ⊎ (second ≡ first)
+  same_alternative p row first second safe a b [] ps qs d e = inl refl
+  same_alternative p row first second safe a b (t ∷ ts) ps qs d e =
+      let one = predicted_taken g plan law p row first safe a d in
+      let other = predicted_taken g plan law p row second safe b e in
+      inr (cc)
+
+  -- the tokens are split in one way between a row and what stands below it
+  split_once : {row : List P} {us : List T} {ps : List P} → Taken g true row us ps → (below : List P) (vs : List T) (qs : List P) →
+      Safe g plan (row ++ below) → Taken g true below vs qs → (others left : List T) (ps' qs' : List P) → Taken g true row others ps' →
+      Taken g true below left qs' → us ++ vs ≡ others ++ left → us ≡ others
+  split_once {row = []} (stop h) below vs qs safe dv others left ps' qs' second dl e = sym (nothing_taken second)
+  split_once {row = p ∷ row} (stop h) below vs qs safe dv others left ps' qs' second dl e = absurd h
+  split_once (token {p = p} {row = row} {t = t} {ts = ts} h rest) below vs qs safe dv others left ps' qs' second dl e =
+      let (u, later, takers, first, tail) = token_first p row t h second in
+      let all : t ∷ (ts ++ vs) ≡ u ∷ (later ++ left) = e ∙ ap (λ x. x ++ left) first in
+      let one : t ≡ u = cc in
+      let equal : ts ++ vs ≡ later ++ left = cc in
+      let same = split_once rest below vs qs safe.1 dv later left takers qs' tail dl equal in
+      cc
+  split_once {us = us} {ps = ps} (part {p = p} {row = row} alternative a rest) below vs qs safe dv others left ps' qs' second dl e =
+      let (other, b, tail) = part_first p row alternative a second in
+      let first_whole = subst (λ r. Taken g true r (us ++ vs) (ps ++ qs)) (append_assoc alternative row below) (joined g rest dv) in
+      let second_whole = subst (λ r. Taken g true r (others ++ left) (ps' ++ qs')) (append_assoc other row below) (joined g tail dl) in
+      elim (same_alternative p (row ++ below) alternative other safe a b (us ++ vs) (ps ++ qs) (ps' ++ qs') first_whole
+      (subst (λ all. Taken g true (other ++ (row ++ below)) all (ps' ++ qs')) (sym e) second_whole)) [
+        | inl none ↦ let mine = no_tokens_left us vs none in let theirs = no_tokens_left others left (sym e ∙ none) in mine ∙ sym theirs
+        | inr same ↦ split_once rest below vs qs
+            (subst (Safe g plan) (sym (append_assoc alternative row below)) (safe_replaced g plan law p (row ++ below) alternative a safe))
+            dv others left ps' qs' (subst (λ r. Taken g true (r ++ row) others ps') same tail) dl e
+      ]
+
+  nullable_empty : (p : P) (row : List P) → IsAmong row (g.alternatives p) → all_nullable g row ≡ true → is_empty row ≡ true
+  nullable_empty p [] a h = refl
+  nullable_empty p (q ∷ row) a h = absurd (both_ways _ (no_nullable g plan law p q row a) h)
+
+  -- the place of the alternative is settled by the tokens that it spells and those that stand after it
+  same_place : (p : P) (row : List P) (i j : Place (g.alternatives p)) (us later : List T) → Safe g plan (p ∷ row) →
+      Spelled g (element (g.alternatives p) i) us → Spelled g (element (g.alternatives p) j) us → Spelled g row later → i ≡ j
+  same_place p row i j us later safe first second below =
+      let (ps, d) = taken_spelled g first in
+      let (qs, e) = taken_spelled g second in
+      let (rs, f) = taken_spelled g below in
+      by_tokens us later (ps ++ rs) (qs ++ rs) ps qs (joined g d f) (joined g e f) d e
+    where
+      a : IsAmong (element (g.alternatives p) i) (g.alternatives p)
+      a = element_among (g.alternatives p) i
+
+      b : IsAmong (element (g.alternatives p) j) (g.alternatives p)
+      b = element_among (g.alternatives p) j
+
+      at_token : (t : T) (ts : List T) (ps qs : List P) → Taken g true (element (g.alternatives p) i ++ row) (t ∷ ts) ps →
+          Taken g true (element (g.alternatives p) j ++ row) (t ∷ ts) qs → i ≡ j
+      at_token t ts ps qs d e =
+          asked_once g plan p t (plan.chosen p t) (g.alternatives p) (choices_pass g plan law p t) i j
+          (asks_taken g plan law p row (element (g.alternatives p) i) safe a d)
+          (asks_taken g plan law p row (element (g.alternatives p) j) safe b e)
+
+      by_tokens : (us later : List T) (ps qs ps' qs' : List P) → Taken g true (element (g.alternatives p) i ++ row) (us ++ later) ps →
+          Taken g true (element (g.alternatives p) j ++ row) (us ++ later) qs → Taken g true (element (g.alternatives p) i) us ps' →
+          Taken g true (element (g.alternatives p) j) us qs' → i ≡ j
+      by_tokens [] later ps qs ps' qs' d e d' e' =
+          empty_once g plan (plan.cost p) (g.alternatives p) (law.at_part p) i j
+          (nullable_empty p (element (g.alternatives p) i) a (taken_nullable g plan law d'))
+          (nullable_empty p (element (g.alternatives p) j) b (taken_nullable g plan law e'))
+      by_tokens (t ∷ us) later ps qs ps' qs' d e d' e' = at_token t (us ++ later) ps qs d e
+
+module _ {P T : Type 0} (g : Grammar P T) (plan : Plan P T) (law : IsPredictive g plan) (Value : P → Type 0)
+    (spells : (p : P) → Value p → List T → Type 0) (making : Making g Value) (spelling : IsSpelling g Value spells making) where
+  row_spelled : (row : List P) (values : RowValues Value row) (ts : List T) → SpellsRow Value spells row values ts → Spelled g row ts
+  row_spelled [] values ts e = subst (Spelled g []) (sym e) Spelled.none
+  row_spelled (p ∷ row) values ts s =
+      let (us, rest, first, later, e) = first_spells Value spells p row values ts s in
+      subst (Spelled g (p ∷ row)) (sym e) (join_spelled g (spelling.spelled p values.0 us first) (row_spelled row values.1 rest later))
+
+  -- values of a part and a row spell the tokens that the part and the row spell
+  aligned : (p : P) (row : List P) (us ts all : List T) → Spelled g (p ∷ []) us → Spelled g row ts → all ≡ us ++ ts →
+      (below : List P) (later : List T) → Safe g plan (p ∷ (row ++ below)) → Spelled g below later →
+      (values : RowValues Value (p ∷ row)) → SpellsRow Value spells (p ∷ row) values all →
+      spells p values.0 us × SpellsRow Value spells row values.1 ts
+  aligned p row us ts all first second split below later safe end values spelled =
+      let (us', ts', s, k, e) = first_spells Value spells p row values all spelled in
+      let (ps, d) = taken_spelled g first in
+      let (ps', d') = taken_spelled g (spelling.spelled p values.0 us' s) in
+      let (qs, f) = taken_spelled g (join_spelled g second end) in
+      let (qs', f') = taken_spelled g (join_spelled g (row_spelled row values.1 ts' k) end) in
+      let whole : us' ++ (ts' ++ later) ≡ us ++ (ts ++ later) =
+      sym (append_assoc us' ts' later) ∙ (ap (λ x. x ++ later) (sym e ∙ split) ∙ append_assoc us ts later) in
+      let same = split_once g plan law d' (row ++ below) (ts' ++ later) qs' safe f' us (ts ++ later) ps qs d f whole in
+      let rest = append_cancel_left us ts' ts (ap (λ x. x ++ ts') (sym same) ∙ (sym e ∙ split)) in
+      (subst (spells p values.0) same s, subst (SpellsRow Value spells row values.1) rest k)
+
+  token_value : (p : P) (t : T) (taken : g.takes p t ≡ true) (value : Value p) → spells p value (t ∷ []) → value ≡ making.of_token p t taken
+  token_value p t taken value s = elim (spelling.made p value (t ∷ []) s) [
+    | inl found ↦ let (u, taken', e, is) = found in
+        let one : t ≡ u = cc in
+        is ∙ sym (subst (λ x. (k : g.takes p x ≡ true) → making.of_token p t taken ≡ making.of_token p x k) one
+        (λ k. ap (making.of_token p t) (Bool-set _ _ taken k)) taken')
+    | inr found ↦ let (place, values, k, is) = found in
+        absurd (takes_alone g plan law p t (element (g.alternatives p) place) taken (element_among (g.alternatives p) place))
+  ]
+
+  MadeAt : (p : P) → Place (g.alternatives p) → Value p → List T → Type 0
+  MadeAt p place value us = (values : RowValues Value (element (g.alternatives p) place)) ×
+      SpellsRow Value spells (element (g.alternatives p) place) values us × (value ≡ making.of_row p place values)
+
+  made_at : (p : P) (row : List P) (place : Place (g.alternatives p)) (us later : List T) → Safe g plan (p ∷ row) →
+      Spelled g (element (g.alternatives p) place) us → Spelled g row later → (value : Value p) → spells p value us →
+      MadeAt p place value us
+  unfolding MadeAt
+  made_at p row place us later safe first end value s = elim (spelling.made p value us s) [
+    | inl found ↦ let (u, taken, e, is) = found in
+        absurd (takes_alone g plan law p u (element (g.alternatives p) place) taken (element_among (g.alternatives p) place))
+    | inr found ↦ let (other, values, k, is) = found in
+        let same = same_place g plan law p row other place us later safe
+        (row_spelled (element (g.alternatives p) other) values us k) first end in
+        subst (λ i. MadeAt p i value us) same (values, k, is)
+  ]
+
+  OneRow : List P → List T → Type 0
+  OneRow row ts = (first second : RowValues Value row) → SpellsRow Value spells row first ts → SpellsRow Value spells row second ts →
+      first ≡ second
+
+  one_part : (p : P) (row : List P) (place : Place (g.alternatives p)) (us later : List T) → Safe g plan (p ∷ row) →
+      Spelled g (element (g.alternatives p) place) us → Spelled g row later → OneRow (element (g.alternatives p) place) us →
+      (first second : Value p) → spells p first us → spells p second us → first ≡ second
+  unfolding MadeAt OneRow
+  one_part p row place us later safe spelled end one first second s r =
+      let (values, k, is) = made_at p row place us later safe spelled end first s in
+      let (others, l, also) = made_at p row place us later safe spelled end second r in
+      (is ∙ ap (making.of_row p place) (one values others k l)) ∙ sym also
+
+  pairs : (p : P) (row : List P) (first second : RowValues Value (p ∷ row)) → first.0 ≡ second.0 → first.1 ≡ second.1 → first ≡ second
+  pairs p row first second e f = λ i. (e i, f i)
+
+  one_row : {row : List P} {ts : List T} → Spelled g row ts → (below : List P) (later : List T) → Safe g plan (row ++ below) →
+      Spelled g below later → OneRow row ts
+  unfolding OneRow
+  one_row Spelled.none below later safe end = λ first second k l. refl
+  one_row (Spelled.token {p = p} {row = row} {t = t} {ts = ts} taken rest) below later safe end = λ first second k l.
+      let one = Spelled.token taken Spelled.none in
+      let (s, tail) = aligned p row (t ∷ []) ts (t ∷ ts) one rest refl below later safe end first k in
+      let (r, tail') = aligned p row (t ∷ []) ts (t ∷ ts) one rest refl below later safe end second l in
+      pairs p row first second (token_value p t taken first.0 s ∙ sym (token_value p t taken second.0 r))
+      (one_row rest below later safe.1 end first.1 second.1 tail tail')
+  one_row (Spelled.part {p = p} {row = row} {all = all} alternative us ts a inner rest e) below later safe end = λ first second k l.
+      let one = Spelled.part alternative us [] a inner Spelled.none (sym (append-nil us)) in
+      let (s, tail) = aligned p row us ts all one rest e below later safe end first k in
+      let (r, tail') = aligned p row us ts all one rest e below later safe end second l in
+      let (place, same) = place_among (g.alternatives p) alternative a in
+      let after = join_spelled g rest end in
+      let inside = one_row inner (row ++ below) (ts ++ later) (safe_replaced g plan law p (row ++ below) alternative a safe) after in
+      pairs p row first second
+      (one_part p (row ++ below) place us (ts ++ later) safe (subst (λ x. Spelled g x us) (sym same) inner) after
+      (subst (λ x. OneRow x us) (sym same) inside) first.0 second.0 s r)
+      (one_row rest below later safe.1 end first.1 second.1 tail tail')
+
+  pub one_value : (p : P) (ts : List T) (first second : Value p) → spells p first ts → spells p second ts → first ≡ second
+  unfolding OneRow
+  one_value p ts first second s r =
+      ap (λ (pair : RowValues Value (p ∷ [])). pair.0)
+      (one_row (spelling.spelled p first ts s) [] [] (leaves_start g plan law p).safe Spelled.none (first, tt) (second, tt) s r)

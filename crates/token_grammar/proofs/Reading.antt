@@ -1,0 +1,145 @@
+-- How far the machine has come: the tokens before a place are taken and seen, and a row is left on the stack.
+use Rattle.std.proofs.Common.{◌≡◌, refl, sym, ◌∙◌, ap, subst, ℕ, zero, suc, ◌+◌, ◌≤◌, arith, Bool, true, false, ◌&&◌, List, [], ◌∷◌, ◌++◌, take, length, reverse, add-one}
+use Rattle.std.specs.Prelude.{Option, Some, None, slice_get}
+use Rattle.std.specs.List.{list_all}
+use Rattle.std.proofs.lemmas.List.{reverse-append}
+use Rattle.std.proofs.lemmas.Option.{slice_get_within}
+use Rattle.token_grammar.specs.Grammar.{Grammar}
+use Rattle.token_grammar.specs.Watch.{Watcher, Sees}
+use Rattle.token_grammar.specs.Plan.{Plan, IsPredictive, all_nullable, is_nullable}
+use Rattle.token_grammar.specs.Step.{Moves}
+use Rattle.token_grammar.specs.Answers.{last_of, IsClean, IsAccepted, IsUnexpected, IsStopped, IsEarlyEnd}
+use Rattle.token_grammar.proofs.Leaves.{Leaves, leaves_start, leaves_at, leaves_expanded, leaves_taken, leaves_refused, leaves_begun, leaves_ended, leaves_no_end}
+use Rattle.token_grammar.proofs.Spelling.{taken_spelled, spelled_taken, taken_begun, begun_taken}
+
+-- one more token is seen
+pub sees_more : {P T S F : Type 0} (watcher : Watcher P T S F) (ps : List P) (ts : List T) (before now after : S) (p : P) (t : T) →
+    Sees watcher before ps ts now → watcher.sees now p t after → Sees watcher before (ps ++ (p ∷ [])) (ts ++ (t ∷ [])) after
+sees_more watcher [] [] before now after p t seen h = (after, subst (λ s. watcher.sees s p t after) seen h, refl)
+sees_more watcher [] (u ∷ ts) before now after p t seen h = absurd seen
+sees_more watcher (q ∷ ps) [] before now after p t seen h = absurd seen
+sees_more watcher (q ∷ ps) (u ∷ ts) before now after p t (between, first, rest) h =
+    (between, first, sees_more watcher ps ts between now after p t rest h)
+
+pub last_of-append : {A : Type 0} (xs : List A) (a : A) → last_of (xs ++ (a ∷ [])) ≡ Some a
+last_of-append [] a = refl
+last_of-append (x ∷ []) a = refl
+last_of-append (x ∷ y ∷ xs) a = last_of-append (y ∷ xs) a
+
+pub take-next : {A : Type 0} (xs : List A) (n : ℕ) (a : A) → slice_get xs n ≡ Some a → take (n + 1) xs ≡ take n xs ++ (a ∷ [])
+take-next [] n a h = cc
+take-next (x ∷ xs) zero a h = ap (λ o. o ∷ []) (let same : x ≡ a = cc in same)
+take-next (x ∷ xs) (suc n) a h = rw (add-one) (ap (λ ys. x ∷ ys) (rw add-one at (take-next xs n a h)))
+
+list_all-append : {A : Type 0} (test : A → Bool) (xs : List A) (a : A) → list_all test (xs ++ (a ∷ [])) ≡ (test a && list_all test xs)
+list_all-append test [] a = refl
+list_all-append test (x ∷ xs) a = rw (list_all-append test xs a) (swapped (test x) (test a) (list_all test xs))
+  where
+    swapped : (x y z : Bool) → (x && (y && z)) ≡ (y && (x && z))
+    swapped true true z = refl
+    swapped true false z = refl
+    swapped false true z = refl
+    swapped false false z = refl
+
+list_all-reverse : {A : Type 0} (test : A → Bool) (xs : List A) → list_all test (reverse xs) ≡ list_all test xs
+list_all-reverse test [] = refl
+list_all-reverse test (x ∷ xs) =
+    rw (reverse-append (x ∷ []) xs) (list_all-append test (reverse xs) x ∙ ap (λ b. test x && b) (list_all-reverse test xs))
+
+pub all_taken : {A : Type 0} (xs : List A) (n : ℕ) → length xs ≤ n → take n xs ≡ xs
+all_taken [] zero h = refl
+all_taken [] (suc n) h = refl
+all_taken (x ∷ xs) zero h = absurd (omega arith)
+all_taken (x ∷ xs) (suc n) h = ap (λ ys. x ∷ ys) (all_taken xs n (omega arith))
+
+pub nullable-reverse : {P T : Type 0} (g : Grammar P T) (stack : List P) →
+    all_nullable g (reverse stack) ≡ list_all (is_nullable g) stack
+nullable-reverse g stack = list_all-reverse (is_nullable g) stack
+
+-- after the tokens us the row is left, and the watcher has gone from its first state to the present one
+pub record Reading {P T S F : Type 0} (g : Grammar P T) (plan : Plan P T) (watcher : Watcher P T S F) (start : P) (before : S)
+    (us : List T) (row : List P) (now : S) (last : Option P) : Type 0 where
+  pub takers : List P
+  pub leaves : Leaves g plan start us takers row
+  pub seen : Sees watcher before takers us now
+  pub ending : last ≡ last_of takers
+
+module _ {P T S F : Type 0} (g : Grammar P T) (plan : Plan P T) (watcher : Watcher P T S F) (law : IsPredictive g plan) (start : P)
+    (before : S) where
+  pub reading_start : Reading g plan watcher start before [] (start ∷ []) before None
+  reading_start = record { takers = []; leaves = leaves_start g plan law start; seen = refl; ending = refl }
+
+  pub reading_taken : (us : List T) (row after : List P) (now later : S) (last : Option P) (t : T) (p : P) →
+      Reading g plan watcher start before us row now last → Moves g plan t row after (Some p) → watcher.sees now p t later →
+      Reading g plan watcher start before (us ++ (t ∷ [])) after later (Some p)
+  reading_taken us row after now later last t p r (expanded, takes) h =
+      let at_p = leaves_expanded g plan law start us t r.takers expanded (leaves_at g plan law start us t r.takers row r.leaves) in
+      record {
+        takers = r.takers ++ (p ∷ []);
+        leaves = leaves_taken g plan law start us t r.takers p after takes at_p;
+        seen = sees_more watcher r.takers us before now later p t r.seen h;
+        ending = sym (last_of-append r.takers p);
+      }
+
+  clean : (us : List T) (row : List P) (now : S) (last : Option P) (r : Reading g plan watcher start before us row now last) →
+      IsClean g watcher false start before us r.takers now
+  clean us row now last r = record { taken = leaves_begun g plan law start us r.takers row r.leaves; seen = r.seen }
+
+  pub reading_unexpected : (ts : List T) (place : ℕ) (row after : List P) (now : S) (last : Option P) (t : T) →
+      slice_get ts place ≡ Some t → Reading g plan watcher start before (take place ts) row now last → Moves g plan t row after None →
+      IsUnexpected g watcher start before ts now place last
+  reading_unexpected ts place row after now last t at r (stuck, expanded, blocked) =
+      let us = take place ts in
+      let at_t = leaves_expanded g plan law start us t r.takers expanded (leaves_at g plan law start us t r.takers row r.leaves) in
+      record {
+        first = record {
+          within = slice_get_within ts place t at;
+          begins = begun_taken g (leaves_begun g plan law start us r.takers row r.leaves);
+          refused = λ begun. let (takers, taken) = taken_begun g (rw (take-next ts place t at) at begun) in
+              leaves_refused g plan law start us t r.takers stuck takers blocked at_t taken;
+        };
+        clean = (r.takers, clean us row now last r, r.ending);
+      }
+
+  pub reading_stopped : (ts : List T) (place : ℕ) (row after : List P) (now : S) (last : Option P) (t : T) (p : P) (fault : F) →
+      slice_get ts place ≡ Some t → Reading g plan watcher start before (take place ts) row now last →
+      Moves g plan t row after (Some p) → watcher.faults now p t fault → IsStopped g watcher start before ts place fault
+  reading_stopped ts place row after now last t p fault at r (expanded, takes) h =
+      let us = take place ts in
+      let at_p = leaves_expanded g plan law start us t r.takers expanded (leaves_at g plan law start us t r.takers row r.leaves) in
+      let next = leaves_taken g plan law start us t r.takers p after takes at_p in
+      let taken = leaves_begun g plan law start (us ++ (t ∷ [])) (r.takers ++ (p ∷ [])) after next in
+      record {
+        within = slice_get_within ts place t at;
+        begins = rw (take-next ts place t at) (begun_taken g taken);
+        found = (r.takers, now, p, t, at, clean us row now last r, taken, h);
+      }
+
+  accepted : (ts : List T) (row : List P) (now : S) (last : Option P) → all_nullable g row ≡ true →
+      Reading g plan watcher start before ts row now last → IsAccepted g watcher start before ts now
+  accepted ts row now last empty r =
+      let taken = leaves_ended g plan law start ts r.takers row empty r.leaves in
+      record { text = spelled_taken g taken; clean = (r.takers, record { taken = taken; seen = r.seen }) }
+
+  pub reading_accepted : (ts : List T) (place : ℕ) (stack : List P) (now : S) (last : Option P) → length ts ≤ place →
+      list_all (is_nullable g) stack ≡ true → Reading g plan watcher start before (take place ts) (reverse stack) now last →
+      IsAccepted g watcher start before ts now
+  reading_accepted ts place stack now last end empty r =
+      accepted ts (reverse stack) now last (nullable-reverse g stack ∙ empty) (rw (all_taken ts place end) at r)
+
+  ended : (ts : List T) (row : List P) (now : S) (last : Option P) → all_nullable g row ≡ false →
+      Reading g plan watcher start before ts row now last → IsEarlyEnd g watcher start before ts now
+  ended ts row now last filled r = record {
+    unfinished = record {
+      begins = begun_taken g (leaves_begun g plan law start ts r.takers row r.leaves);
+      no_text = λ text. let (takers, taken) = taken_spelled g text in
+          leaves_no_end g plan law start ts r.takers row takers filled r.leaves taken;
+    };
+    clean = (r.takers, clean ts row now last r);
+  }
+
+  pub reading_ended : (ts : List T) (place : ℕ) (stack : List P) (now : S) (last : Option P) → length ts ≤ place →
+      list_all (is_nullable g) stack ≡ false → Reading g plan watcher start before (take place ts) (reverse stack) now last →
+      IsEarlyEnd g watcher start before ts now
+  reading_ended ts place stack now last end filled r =
+      ended ts (reverse stack) now last (nullable-reverse g stack ∙ filled) (rw (all_taken ts place end) at r)

@@ -1,0 +1,190 @@
+-- A part that stands for rows of another grammar takes what one of them takes.
+use Rattle.std.proofs.Common.{◌≡◌, refl, sym, ◌∙◌, ap, subst, Bool, true, false, ◌⊎◌, inl, inr, List, [], ◌∷◌, ◌++◌, append_assoc}
+use Rattle.std.specs.Prelude.{IsFalse}
+use Rattle.std.proofs.lemmas.Bool.{true≢false}
+use Rattle.token_grammar.specs.Grammar.{Grammar, IsText, BeginsText}
+use Rattle.logic_core.specs.Lists.{IsAmong}
+use Rattle.token_grammar.specs.Taken.{Taken, MayLeave}
+use Rattle.token_grammar.specs.Taken.Taken.{stop, token, part}
+use Rattle.token_grammar.specs.Plan.{is_empty}
+use Rattle.token_grammar.specs.Factored.{after_row, joined_rows, stood_rows, Becomes, OneBecomes, EachIsMade, AlternativesAreMade, Translates}
+use Rattle.token_grammar.specs.Factored.Becomes.{done, keep, replace}
+use Rattle.token_grammar.proofs.Spelling.{joined, taken_spelled, spelled_taken, taken_begun, begun_taken}
+
+-- rows that are joined
+
+after_among : {Q : Type 0} (first row : List Q) (rows : List (List Q)) → IsAmong row rows → IsAmong (first ++ row) (after_row first rows)
+after_among first row [] a = a
+after_among first row (other ∷ rows) (inl e) = inl (ap (λ r. first ++ r) e)
+after_among first row (other ∷ rows) (inr a) = inr (after_among first row rows a)
+
+among_left : {A : Type 0} (a : A) (xs ys : List A) → IsAmong a xs → IsAmong a (xs ++ ys)
+among_left a [] ys h = absurd h
+among_left a (x ∷ xs) ys (inl e) = inl e
+among_left a (x ∷ xs) ys (inr h) = inr (among_left a xs ys h)
+
+among_right : {A : Type 0} (a : A) (xs ys : List A) → IsAmong a ys → IsAmong a (xs ++ ys)
+among_right a [] ys h = h
+among_right a (x ∷ xs) ys h = inr (among_right a xs ys h)
+
+joined_among : {Q : Type 0} (first row : List Q) (firsts rows : List (List Q)) → IsAmong first firsts → IsAmong row rows →
+    IsAmong (first ++ row) (joined_rows firsts rows)
+joined_among first row [] rows a b = a
+joined_among first row (other ∷ firsts) rows (inl e) b =
+    among_left (first ++ row) (after_row other rows) (joined_rows firsts rows)
+    (subst (λ r. IsAmong (r ++ row) (after_row other rows)) e (after_among other row rows b))
+joined_among first row (other ∷ firsts) rows (inr a) b =
+    among_right (first ++ row) (after_row other rows) (joined_rows firsts rows) (joined_among first row firsts rows a b)
+
+among_either : {A : Type 0} (a : A) (xs ys : List A) → IsAmong a (xs ++ ys) → IsAmong a xs ⊎ IsAmong a ys
+among_either a [] ys h = inr h
+among_either a (x ∷ xs) ys (inl e) = inl (inl e)
+among_either a (x ∷ xs) ys (inr h) = elim (among_either a xs ys h) [ inl k ↦ inl (inr k) | inr k ↦ inr k ]
+
+after_split : {Q : Type 0} (all first : List Q) (rows : List (List Q)) → IsAmong all (after_row first rows) →
+    (row : List Q) × IsAmong row rows × (all ≡ first ++ row)
+after_split all first [] a = absurd a
+after_split all first (row ∷ rows) (inl e) = (row, inl refl, sym e)
+after_split all first (row ∷ rows) (inr a) = let (found, b, e) = after_split all first rows a in (found, inr b, e)
+
+joined_split : {Q : Type 0} (all : List Q) (firsts rows : List (List Q)) → IsAmong all (joined_rows firsts rows) →
+    (first : List Q) × (row : List Q) × IsAmong first firsts × IsAmong row rows × (all ≡ first ++ row)
+joined_split all [] rows a = absurd a
+joined_split all (first ∷ firsts) rows a = elim (among_either all (after_row first rows) (joined_rows firsts rows) a) [
+  | inl h ↦ let (row, b, e) = after_split all first rows h in (first, row, inl refl, b, e)
+  | inr h ↦ let (found, row, b, d, e) = joined_split all firsts rows h in (found, row, inr b, d, e)
+]
+
+stood_split : {P Q : Type 0} (stands : P → List (List Q)) (row below : List P) (all : List Q) →
+    IsAmong all (stood_rows stands (row ++ below)) →
+    (first : List Q) × (second : List Q) × IsAmong first (stood_rows stands row) × IsAmong second (stood_rows stands below) × (all ≡ first ++ second)
+stood_split stands [] below all a = ([], all, inl refl, a, refl)
+stood_split stands (p ∷ row) below all a =
+    let (head, tail, b, d, e) = joined_split all (stands p) (stood_rows stands (row ++ below)) a in
+    let (first, second, k, l, f) = stood_split stands row below tail d in (
+      head ++ first,
+      second,
+      joined_among head first (stands p) (stood_rows stands row) b k,
+      l,
+      (e ∙ ap (λ r. head ++ r) f) ∙ sym (append_assoc head first second),
+    )
+
+one_row : {A : Type 0} (rows : List A) → IsFalse (is_empty rows) → (row : A) × IsAmong row rows
+one_row [] h = absurd (true≢false h)
+one_row (row ∷ rows) h = (row, inl refl)
+
+-- a row that becomes another takes what that takes
+
+may_leave_any : {Q : Type 0} (whole : Bool) (q : Q) (row other : List Q) → MayLeave whole (q ∷ row) → MayLeave whole (q ∷ other)
+may_leave_any true q row other h = absurd h
+may_leave_any false q row other h = tt
+
+module _ {Q T : Type 0} (h : Grammar Q T) (whole : Bool) (row other : List Q)
+    (turn : (ts : List T) (takers : List Q) → Taken h whole other ts takers → Taken h whole row ts takers) where
+  kept : {all : List Q} {ts : List T} {takers : List Q} → Taken h whole all ts takers → (front : List Q) → all ≡ front ++ other →
+      Taken h whole (front ++ row) ts takers
+  kept {ts = ts} {takers = takers} taken [] e = turn ts takers (subst (λ r. Taken h whole r ts takers) e taken)
+  kept {all = all} (stop leave) (q ∷ front) e =
+      stop (may_leave_any whole q (front ++ other) (front ++ row) (subst (MayLeave whole) e leave))
+  kept (token {p = p} {row = rest} {t = t} {ts = ts} {takers = takers} takes taken) (q ∷ front) e =
+      let one : p ≡ q = cc in
+      let tail : rest ≡ front ++ other = cc in
+      subst (λ x. Taken h whole (x ∷ (front ++ row)) (t ∷ ts) (p ∷ takers)) one (token takes (kept taken front tail))
+  kept (part {p = p} {row = rest} {ts = ts} {takers = takers} alternative a taken) (q ∷ front) e =
+      let one : p ≡ q = cc in
+      let tail : rest ≡ front ++ other = cc in
+      let further = kept taken (alternative ++ front) (ap (λ r. alternative ++ r) tail ∙ sym (append_assoc alternative front other)) in
+      subst (λ x. Taken h whole (x ∷ (front ++ row)) ts takers) one
+      (part alternative a (subst (λ r. Taken h whole r ts takers) (append_assoc alternative front row) further))
+
+becomes_taken : {Q T : Type 0} (h : Grammar Q T) (whole : Bool) {row other : List Q} (below : List Q) → Becomes h row other →
+    (ts : List T) (takers : List Q) → Taken h whole (other ++ below) ts takers → Taken h whole (row ++ below) ts takers
+becomes_taken h whole below done ts takers taken = taken
+becomes_taken h whole below (keep {q = q} {row = row} {other = other} rest) ts takers taken =
+    kept h whole (row ++ below) (other ++ below) (becomes_taken h whole below rest) taken (q ∷ []) refl
+becomes_taken h whole below (replace {q = q} {row = row} alternative a rest) ts takers taken =
+    part alternative a
+    (subst (λ r. Taken h whole r ts takers) (append_assoc alternative row below) (becomes_taken h whole below rest ts takers taken))
+
+-- what stands for a row
+
+one_becomes : {Q T : Type 0} (h : Grammar Q T) (rows : List (List Q)) (other : List Q) → OneBecomes h rows other →
+    (row : List Q) × IsAmong row rows × Becomes h row other
+one_becomes h [] other b = absurd b
+one_becomes h (row ∷ rows) other (inl b) = (row, inl refl, b)
+one_becomes h (row ∷ rows) other (inr b) = let (found, a, k) = one_becomes h rows other b in (found, inr a, k)
+
+each_made : {Q T : Type 0} (h : Grammar Q T) (rows others : List (List Q)) (other : List Q) → EachIsMade h rows others →
+    IsAmong other others → OneBecomes h rows other
+each_made h rows [] other made a = absurd a
+each_made h rows (first ∷ others) other made (inl e) = subst (OneBecomes h rows) e made.0
+each_made h rows (first ∷ others) other made (inr a) = each_made h rows others other made.1 a
+
+alternative_made : {P Q T : Type 0} (h : Grammar Q T) (stands : P → List (List Q)) (rows : List (List Q)) (alternatives : List (List P))
+    (alternative : List P) → AlternativesAreMade h stands rows alternatives → IsAmong alternative alternatives →
+    EachIsMade h rows (stood_rows stands alternative)
+alternative_made h stands rows [] alternative made a = absurd a
+alternative_made h stands rows (first ∷ rest) alternative made (inl e) =
+    subst (λ r. EachIsMade h rows (stood_rows stands r)) e made.0
+alternative_made h stands rows (first ∷ rest) alternative made (inr a) = alternative_made h stands rows rest alternative made.1 a
+
+module _ {P Q T : Type 0} (g : Grammar P T) (h : Grammar Q T) (stands : P → List (List Q)) (tr : Translates g h stands) where
+  some_row : (row : List P) → (other : List Q) × IsAmong other (stood_rows stands row)
+  some_row [] = ([], inl refl)
+  some_row (p ∷ row) =
+      let (first, a) = one_row (stands p) (tr.some p) in
+      let (rest, b) = some_row row in
+      (first ++ rest, joined_among first rest (stands p) (stood_rows stands row) a b)
+
+  translated : {whole : Bool} {row : List P} {ts : List T} {takers : List P} → Taken g whole row ts takers →
+      (other : List Q) × (others : List Q) × IsAmong other (stood_rows stands row) × Taken h whole other ts others
+  translated {whole = true} {row = []} (stop leave) = ([], [], inl refl, stop tt)
+  translated {whole = true} {row = p ∷ row} (stop leave) = absurd leave
+  translated {whole = false} {row = row} (stop leave) = let (other, a) = some_row row in (other, [], a, stop tt)
+  translated (token {p = p} {row = row} {t = t} takes rest) =
+      let (first, a, spelled) = tr.takes p t takes in
+      let (ps, front) = taken_spelled h spelled in
+      let (second, qs, b, back) = translated rest in
+      (first ++ second, ps ++ qs, joined_among first second (stands p) (stood_rows stands row) a b, joined h front back)
+  translated {whole = whole} {ts = ts} (part {p = p} {row = row} alternative a rest) =
+      let (all, qs, b, taken) = translated rest in
+      let (first, second, k, l, e) = stood_split stands alternative row all b in
+      let made = each_made h (stands p) (stood_rows stands alternative) first
+      (alternative_made h stands (stands p) (g.alternatives p) alternative (tr.alternatives p) a) k in
+      let (found, m, becomes) = one_becomes h (stands p) first made in (
+        found ++ second,
+        qs,
+        joined_among found second (stands p) (stood_rows stands row) m l,
+        becomes_taken h whole second becomes ts qs (subst (λ r. Taken h whole r ts qs) e taken),
+      )
+
+  -- a part that stands for one part alone
+  only_start : (start : P) (other : Q) (row : List Q) → stands start ≡ (other ∷ []) ∷ [] →
+      IsAmong row (stood_rows stands (start ∷ [])) → row ≡ other ∷ []
+  only_start start other row e a =
+      let (first, second, b, d, f) = joined_split row (stands start) ([] ∷ []) a in
+      let one = only (other ∷ []) first (subst (IsAmong first) e b) in
+      let none = only [] second d in
+      f ∙ (ap (λ r. r ++ second) one ∙ ap (λ r. other ∷ r) none)
+    where
+      only : {A : Type 0} (x y : A) → IsAmong y (x ∷ []) → y ≡ x
+      only x y (inl e) = sym e
+      only x y (inr h) = absurd h
+
+  taken_start : (start : P) (other : Q) (whole : Bool) (ts : List T) (takers : List P) → stands start ≡ (other ∷ []) ∷ [] →
+      Taken g whole (start ∷ []) ts takers → (others : List Q) × Taken h whole (other ∷ []) ts others
+  taken_start start other whole ts takers e taken =
+      let (row, others, a, also) = translated taken in
+      (others, subst (λ r. Taken h whole r ts others) (only_start start other row e a) also)
+
+  pub text_translated : (start : P) (other : Q) → stands start ≡ (other ∷ []) ∷ [] → (ts : List T) → IsText g start ts → IsText h other ts
+  text_translated start other e ts text =
+      let (takers, taken) = taken_spelled g text in
+      let (others, also) = taken_start start other true ts takers e taken in
+      spelled_taken h also
+
+  pub begun_translated : (start : P) (other : Q) → stands start ≡ (other ∷ []) ∷ [] → (ts : List T) → BeginsText g start ts → BeginsText h other ts
+  begun_translated start other e ts begun =
+      let (takers, taken) = taken_begun g begun in
+      let (others, also) = taken_start start other false ts takers e taken in
+      begun_taken h also

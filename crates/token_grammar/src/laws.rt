@@ -1,0 +1,37 @@
+ghost use Rattle.std.specs.Prelude.{◌≡◌, ◌↔◌, Bool, true, false, List, [], ◌∷◌, ◌++◌, Result};
+ghost use Rattle.token_grammar.specs.Grammar.{IsText, BeginsText};
+ghost use Rattle.token_grammar.specs.Taken.{Taken};
+ghost use Rattle.token_grammar.specs.Answers.{IsAnswer, AreOne};
+ghost use Rattle.token_grammar.specs.declared.refusal.Refusal.{Refusal};
+
+use crate::part::Part;
+
+/// The answers exclude each other: two answers for the same tokens are one answer, place, last part and fault included,
+/// where neither is want of memory.
+pub fn answers_agree<P: Part>()
+    ensures { (start : P) (before a b : P.Seen) (ts : List P.Token) (first second : Result (Unit {0}) (Refusal P P.Fault)) →
+        IsAnswer P.grammar P.watcher start before ts a first → IsAnswer P.grammar P.watcher start before ts b second →
+        AreOne first second }
+{}
+
+/// The tokens are a text exactly where parts take them from left to right up to the end, and they begin a text exactly where
+/// parts take them from left to right.
+pub fn texts_are_taken<P: Part>()
+    ensures texts { (start : P) (ts : List P.Token) →
+        IsText P.grammar start ts ↔ ((takers : List P) × Taken P.grammar true (start ∷ []) ts takers) }
+    ensures beginnings { (start : P) (ts : List P.Token) →
+        BeginsText P.grammar start ts ↔ ((takers : List P) × Taken P.grammar false (start ∷ []) ts takers) }
+{}
+
+/// Which part takes which token is settled by the tokens.
+pub fn takers_agree<P: Part>()
+    ensures { (start : P) (whole other : Bool) (ts : List P.Token) (takers others : List P) →
+        Taken P.grammar whole (start ∷ []) ts takers → Taken P.grammar other (start ∷ []) ts others → takers ≡ others }
+{}
+
+/// A text begins a text, and so do the first tokens of what begins one.
+pub fn fronts_begin<P: Part>()
+    ensures whole { (start : P) (ts : List P.Token) → IsText P.grammar start ts → BeginsText P.grammar start ts }
+    ensures fronts { (start : P) (front back : List P.Token) →
+        BeginsText P.grammar start (front ++ back) → BeginsText P.grammar start front }
+{}
