@@ -1,0 +1,4 @@
+pub mod Chains
+pub mod Entries
+pub mod Facts
+pub mod Stored

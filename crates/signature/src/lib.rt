@@ -1,0 +1,9 @@
+//! The numbers of predicate symbols and of constants, in order of first occurrence.
+#![tactic(auto)]
+
+mod names;
+mod tables;
+#[cfg(test)]
+mod tests;
+
+pub use tables::Tables;
