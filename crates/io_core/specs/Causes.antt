@@ -18,6 +18,11 @@ pub record Counts : Type 0 where
   pub faults : ℕ
   pub given : ℕ
 
+-- how many faults a writer's sink had, and the bytes that its writer holds, where the writer says
+pub record Written : Type 0 where
+  pub faults : ℕ
+  pub written : Option (List ℕ)
+
 -- the count is greater than before, or stands at its greatest value
 abbrev pub Rose : ℕ → ℕ → Type 0
 Rose before now = raised before 1 ≤ now

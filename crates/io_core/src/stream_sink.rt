@@ -1,30 +1,32 @@
-ghost use Rattle.std.specs.Prelude.{◌≡◌, ℕ, [], None, IsOk, OnOk, take};
+ghost use Rattle.std.specs.Prelude.{◌≡◌, ◌≤◌, ℕ, [], None, IsOk, OnOk, OnErr, take};
 ghost use Rattle.std.specs.Io.KnownBytes.{Appends};
+ghost use Rattle.io_core.specs.Causes.{Rose};
 
 use crate::count::raised_by;
 use crate::sink::{Sink, SinkFault};
 use std::io::Write;
 use std::marker::Model;
 
-/// A writer as a sink. It tells nothing of what the writer holds.
+/// A writer as a sink. As a sink it tells nothing of its contents; contracts see the number of its faults, and what
+/// the writer says that it holds.
 #[derive(Drop)]
-pub struct StreamSink<T> {
+pub struct StreamSink<T: Write> {
     inner: T,
     faults: u64,
 }
 
-impl<T> Model for StreamSink<T> {
-    ghost use Rattle.std.specs.Prelude.{ℕ};
+impl<T: Write> Model for StreamSink<T> {
+    ghost use Rattle.io_core.specs.Causes.{Written};
 
-    ghost Value = { ℕ };
+    ghost Value = { Written };
 
-    ghost view = { λ s. s.faults };
+    ghost view = { λ s. record { faults = s.faults; written = T.contents s.inner } };
 }
 
 impl<T: Write> StreamSink<T> {
     /// A sink that writes to this writer, with no faults so far. It takes no memory.
     pub fn new(inner: T) -> StreamSink<T>
-        ensures { result ≡ 0 }
+        ensures { result ≡ record { faults = 0; written = T.contents inner } }
     {
         StreamSink { inner, faults: 0 }
     }
@@ -33,11 +35,18 @@ impl<T: Write> StreamSink<T> {
 impl<T: Write> Sink for StreamSink<T> {
     ghost contents = { λ _. None };
 
-    ghost faults = { λ s. s };
+    ghost faults = { λ s. s.faults };
 
     /// As `Sink` says. A write that takes nothing of a piece that is not empty is a fault, as is a failed write
-    /// or flush.
-    fn put(&mut self, piece: &[u8]) -> Result<(), SinkFault> {
+    /// or flush. Where the writer says what it holds, the whole piece was written, or at a fault a prefix of it.
+    fn put(&mut self, piece: &[u8]) -> Result<(), SinkFault>
+        ensures appended { OnOk result (Appends self.old.written self.new.written piece.now) }
+        ensures prefix { (n : ℕ) × Appends self.old.written self.new.written (take n piece.now) }
+        ensures cause { OnErr result (Rose self.old.faults self.new.faults) }
+        ensures faults_stay { OnOk result (self.new.faults ≡ self.old.faults) }
+        ensures faults_grow { self.old.faults ≤ self.new.faults }
+        ensures empty { piece.now ≡ [] → IsOk result }
+    {
         let written = write_whole(&mut self.inner, piece);
         if written.is_err() {
             self.faults = raised_by(self.faults, 1);
