@@ -337,7 +337,3 @@ refuses problem goal bytes steps one e spelled refused = record {
   where
     never : accepts problem goal false steps ≡ true → ⊥
     never holds = cc
-
-pub no_goal : (goals : List GroundAtom) → length goals ≡ 1 → None ≡ first goals → ⊥
-no_goal [] one e = absurd (omega arith)
-no_goal (a ∷ more) one e = cc

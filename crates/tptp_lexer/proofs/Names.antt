@@ -5,7 +5,7 @@ use Rattle.std.specs.List.{list_all, list_any}
 use Rattle.std.proofs.lemmas.Bool.{eqb-true, eq-eqb}
 use borrow.Author.Tests.{ltb-true, lt-ltb}
 use Rattle.std.proofs.lemmas.Bool.Decides.{nat_tests}
-use Rattle.std.proofs.lemmas.List.{drop_more, drop_all}
+use Rattle.std.proofs.lemmas.List.{drop_more}
 use Rattle.std.proofs.lemmas.Slice.Eq.{bytes_eq-Decides}
 use Rattle.logic_core.specs.Names.{Text, IsPrintable, IsNameText}
 use Rattle.tptp_lexer.specs.declared.kind.Kind.{Kind}
@@ -168,9 +168,6 @@ shown_step body at below = ap unescaped front ∙ by_test (λ k. unescaped (get_
 pub shown_kept : (body bytes new : Text) (at shown : ℕ) → bytes ++ unescaped (drop at body) ≡ unescaped body → at < length body → shown ≡ shown_at body at → new ≡ bytes ++ get_or body shown 0 ∷ [] → new ++ unescaped (drop (shown + 1) body) ≡ unescaped body
 shown_kept body bytes new at shown so_far below s n =
     ap (λ (xs : Text). xs ++ unescaped (drop (shown + 1) body)) n ∙ append_assoc bytes (get_or body shown 0 ∷ []) (unescaped (drop (shown + 1) body)) ∙ ap (λ k. bytes ++ get_or body k 0 ∷ unescaped (drop (k + 1) body)) s ∙ ap (λ (xs : Text). bytes ++ xs) (sym (shown_step body at below)) ∙ so_far
-
-pub shown_end : (body : Text) (at : ℕ) → length body ≤ at → unescaped (drop at body) ≡ []
-shown_end body at h = ap unescaped (drop_all at body h)
 
 printable_cons : (b : ℕ) (bs : Text) → is_printable b ≡ true → IsPrintable bs → IsPrintable (b ∷ bs)
 printable_cons b bs h r = (low b h, high b h, r)

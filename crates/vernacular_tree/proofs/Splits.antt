@@ -32,9 +32,3 @@ pub split_closes : (task : Task) (line : ℕ) (bodies : List Body) (lists : List
     → slice_get context.lines line ≡ Some (Cases lists) → ListProves task bodies lists context → Closes task (Cs line bodies) context
 split_closes task line bodies lists context is prove =
     subst (λ (end : End). Closes task end context) (sym (Cs_opens line bodies)) (lists, is, row_proves task bodies lists context prove)
-
-pub split_opens : (task : Task) (line : ℕ) (bodies : List Body) (context : Context) → Closes task (Cs line bodies) context
-    → (lists : List (List Atom)) × (slice_get context.lines line ≡ Some (Cases lists)) × ListProves task bodies lists context
-split_opens task line bodies context h =
-    let opened = subst (λ (end : End). Closes task end context) (Cs_opens line bodies) h in
-    (opened.0, opened.1, list_proves task bodies opened.0 context opened.2)

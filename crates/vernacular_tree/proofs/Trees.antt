@@ -176,9 +176,6 @@ long_refused nodes long tree =
     let few : size tree.tree ≤ 65536 = tree.bounded.small in
     omega arith
 
-pub front_refused : (nodes : List Node) → NoBody 200 nodes → IsTree nodes → ⊥
-front_refused nodes none tree = none tree.tree [] (sym tree.preorder_is ∙ sym (append-nil (preorder tree.tree))) tree.bounded.shallow
-
 pub rest_refused : (nodes rest : List Node) (body : Body) → nodes ≡ preorder body ++ rest → 0 < length rest → IsTree nodes → ⊥
 rest_refused nodes rest body front more tree =
     let same = body_front tree.tree body [] rest (append-nil (preorder tree.tree) ∙ tree.preorder_is ∙ front) in
