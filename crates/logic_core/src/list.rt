@@ -42,6 +42,13 @@ impl<T> List<T> {
         List { items }
     }
 
+    /// The items as a `Vec`. It takes no memory.
+    pub fn into_vec(self) -> Vec<T>
+        ensures { result.items ≡ self }
+    {
+        self.items
+    }
+
     /// The number of items.
     pub fn len(&self) -> usize
         ensures { result ≡ length self.now }

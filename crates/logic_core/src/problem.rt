@@ -110,6 +110,14 @@ impl Items {
         self.items.as_slice()
     }
 
+    /// The items in order, as a list of their own. It takes no memory.
+    pub fn into_list(self) -> List<Item>
+        ensures items { result ≡ self }
+        ensures may_stand { AllByRecursion ItemMayStand self }
+    {
+        self.items
+    }
+
     /// Appends an item that may stand in a problem's text. `Memory` is want of memory: the item is given up,
     /// and the items are as before.
     pub fn push(&mut self, item: Item) -> Result<(), Memory>
