@@ -3,6 +3,7 @@
 
 mod byte;
 mod comment;
+mod cursor;
 mod kind;
 mod laws;
 mod lexer;
@@ -13,8 +14,10 @@ mod quote;
 mod refusal;
 #[cfg(test)]
 mod tests;
+mod token;
 mod token_list;
 
+pub use cursor::Cursor;
 pub use kind::Kind;
 pub use laws::{
     never_tokens_and_refusal, one_first_refused_place, one_list_of_tokens, tokens_in_order,
@@ -22,4 +25,5 @@ pub use laws::{
 };
 pub use lexer::tokens;
 pub use refusal::LexRefusal;
+pub use token::Token;
 pub use token_list::Tokens;

@@ -127,6 +127,39 @@ fn names(rt: HostRuntime) -> Result<(), Fail> {
     Ok(())
 }
 
+// A cursor goes from token to token, and stops behind the last.
+#[test]
+fn from_token_to_token(rt: HostRuntime) -> Result<(), Fail> {
+    let lexed = tokens(rt.alloc(), b"p('X', Y). 7")
+        .ok()
+        .ok_or("these are tokens")?;
+    let mut shown = String::new(rt.alloc());
+    let mut cursor = lexed.cursor();
+    assert_eq!(rt; cursor.len(), lexed.len());
+    for left in (0..lexed.len()).rev() {
+        let (token, behind) = cursor.next().ok_or("a token is left")?;
+        assert_eq!(rt; behind.len(), left);
+        let kind = token.kind();
+        let start = token.start();
+        let count = token.text().len();
+        write!(shown, "{kind:?} {start} {count}")?;
+        if kind == Kind::Quoted || kind == Kind::Upper {
+            let name = token.name(rt.alloc()).ok().ok_or("memory is left")?;
+            for byte in name.bytes() {
+                shown.push(*byte as char)?;
+            }
+        }
+        shown.push(';')?;
+        cursor = behind;
+    }
+    assert!(rt; cursor.next().is_none());
+    assert_eq!(rt;
+        shown.as_str(),
+        "Lower 0 1;OpenParenthesis 1 1;Quoted 2 3X;Comma 5 1;Upper 7 1Y;CloseParenthesis 8 1;Dot 9 1;Integer 11 1;"
+    );
+    Ok(())
+}
+
 // The text of a refusal is its variant's name.
 #[test]
 fn refusals_shown(rt: HostRuntime) -> Result<(), Fail> {

@@ -5,6 +5,7 @@ ghost use Rattle.tptp_lexer.specs.Tokens.{AreTokens, kinds_of, starts_of, ends_o
 
 use crate::kind::Kind;
 use crate::name::name_of;
+use crate::token::Token;
 use logic_core::{List, Memory, Name};
 use std::alloc::Global;
 use std::marker::Model;
@@ -87,6 +88,16 @@ impl<'a> Tokens<'a> {
     {
         let span = self.spans.as_slice()[at];
         &self.source[span.start as usize..span.end as usize]
+    }
+
+    /// The token at a place below `len`, counted from 0.
+    pub(crate) fn token(&self, at: usize) -> Token<'a>
+        requires { at < length self.now.tokens }
+        ensures { slice_get self.now.tokens at ≡ Some result }
+    {
+        let span = self.spans.as_slice()[at];
+        let text = &self.source[span.start as usize..span.end as usize];
+        Token::new(span.kind, span.start, text)
     }
 
     /// The name that a word in lower or upper case, a quoted word or an integer is: its bytes, and those between
