@@ -1,0 +1,121 @@
+-- Names, terms and lists with commas: what is spelled is read.
+use Rattle.std.specs.Prelude.{◌≡◌, ◌≤◌, ℕ, zero, suc, true, false, if◌then◌else◌, List, [], ◌∷◌, ◌++◌, length, Some, None, refl}
+use Rattle.std.specs.Option.{option_and_then}
+use Rattle.std.proofs.Common.{ap, ◌∙◌, inl, inr, append_assoc, arith}
+use Rattle.std.proofs.lemmas.List.{length-append}
+use Rattle.logic_core.specs.declared.formula.Term.TheVariants.{Variable, Constant}
+use Rattle.tptp_lexer.specs.declared.kind.Kind.{Kind}
+use Rattle.tptp_lexer.specs.declared.kind.Kind.TheVariants as kind
+use Rattle.tptp_lexer.specs.Tokens.{Token, name_of}
+use Rattle.tptp_grammar.specs.declared.cursor.Naming.{Naming}
+use Rattle.tptp_grammar.specs.declared.cursor.Naming.TheVariants as naming
+use Rattle.tptp_grammar.specs.Symbols.{same_kind}
+use Rattle.tptp_grammar.specs.Reading.{Read, behind, with_front, more_from, listed_from, closed_by, may_name, name_from, names_from, term_at, term_from}
+use Rattle.tptp_grammar.specs.Spells.{IsWord, IsNaming, SpellsName, SpellsVariable, SpellsTerm, SpellsMore, SpellsListed, SpellsBetween, SpellsVariables}
+use Rattle.tptp_grammar.specs.Spells.SpellsMore.{none, more}
+use Rattle.tptp_grammar.proofs.Unfolded.{more-none, more-next}
+use Rattle.tptp_grammar.proofs.Endings.{behind-here, behind-other}
+
+-- a reader that reads what is spelled, whatever stands behind it
+abbrev pub ReadsSpelled : {X : Type 0} → (X → List Token → Type 0) → (List Token → Read X) → Type 0
+ReadsSpelled {X = X} spells read = (x : X) (us rest : List Token) → spells x us → read (us ++ rest) ≡ Some (x, rest)
+
+name_here : (wanted : Naming) (t : Token) (rest : List Token) → may_name wanted t.kind ≡ true → name_from wanted (t ∷ rest) ≡ Some (name_of t, rest)
+unfolding name_from
+name_here wanted t rest may = ap (λ b. if b then Some (name_of t, rest) else None) may
+
+name_read : (wanted : Naming) (P : Token → Type 0) → ((t : Token) → P t → may_name wanted t.kind ≡ true) →
+    ReadsSpelled (SpellsName P) (name_from wanted)
+name_read wanted P may x us rest s = let (t, is, name, split) = s in rw (split, name) (name_here wanted t rest (may t is))
+
+pub term_read : ReadsSpelled SpellsTerm term_from
+unfolding term_from
+term_read (Variable x) us rest s = let (t, is, name, split) = s in
+    rw (split, name) (ap (λ k. term_at k (name_of t) rest) is)
+term_read (Constant x) us rest s = let (t, is, name, split) = s in
+    rw (split, name) (by t is)
+  where
+    by : (t : Token) → IsWord t → term_at t.kind (name_of t) rest ≡ Some (Constant (name_of t), rest)
+    by t (inl is) = ap (λ k. term_at k (name_of t) rest) is
+    by t (inr is) = ap (λ k. term_at k (name_of t) rest) is
+
+-- a list behind a token is longer
+pub longer : {A : Type 0} (us vs : List A) (n : ℕ) → n ≤ length vs → suc n ≤ suc (length (us ++ vs))
+longer us vs n few = let e = length-append us vs in omega arith
+
+module _ {X : Type 0} (spells : X → List Token → Type 0) where
+  -- each further value takes a token
+  more_few : {xs : List X} {us : List Token} → SpellsMore spells xs us → length xs ≤ length us
+  more_few none = omega arith
+  more_few (more {xs = xs} comma us vs is s later split) = rw split (longer us vs (length xs) (more_few later))
+
+module _ {X : Type 0} (spells : X → List Token → Type 0) (read : List Token → Read X) (reads : ReadsSpelled spells read) where
+  more_read : {xs : List X} {us : List Token} → SpellsMore spells xs us → (most : ℕ) (rest : List Token) → length xs ≤ most →
+      behind kind.Comma rest ≡ None → more_from read kind.Comma most (us ++ rest) ≡ Some (xs, rest)
+  more_read none most rest few end = more-none read kind.Comma most rest end
+  more_read (more comma us vs is s later split) zero rest few end = absurd (omega arith)
+  more_read (more {x = x} {xs = xs} comma us vs is s later split) (suc most) rest few end =
+      let fewer : length xs ≤ most = omega arith in
+      rw (split, append_assoc us vs rest)
+      (more-next read kind.Comma most x xs (comma ∷ (us ++ (vs ++ rest))) (us ++ (vs ++ rest)) (vs ++ rest) rest
+      (behind-here kind.Comma comma (us ++ (vs ++ rest)) is) (reads x us (vs ++ rest) s) (more_read later most rest fewer end))
+
+  listed_step : (close : Kind) (x : X) (xs : List X) (last : Token) (ts behind_first rest : List Token) → last.kind ≡ close →
+      read ts ≡ Some (x, behind_first) →
+      more_from read kind.Comma (length behind_first) behind_first ≡ Some (xs, last ∷ rest) → listed_from read close ts ≡ Some (x ∷ xs, rest)
+  listed_step close x xs last ts behind_first rest is one others =
+      ap (option_and_then (λ (first : X × List Token). option_and_then (closed_by close)
+      (with_front (first.0 ∷ []) (more_from read kind.Comma (length first.1) first.1)))) one ∙
+      (ap (λ found. option_and_then (closed_by close) (with_front (x ∷ []) found)) others ∙
+      ap (option_and_then (λ ts. Some (x ∷ xs, ts))) (behind-here close last rest is))
+
+  -- a list is read up to the closing bracket
+  pub listed_read : (close : Kind) → same_kind close kind.Comma ≡ false → (xs : List X) (us : List Token) → SpellsListed spells xs us →
+      (last : Token) → last.kind ≡ close → (rest : List Token) → listed_from read close (us ++ (last ∷ rest)) ≡ Some (xs, rest)
+  listed_read close apart [] all s last is rest = absurd s
+  listed_read close apart (x ∷ xs) all s last is rest = let (us, vs, first, later, split) = s in
+      let few = more_few spells later in
+      let e = length-append vs (last ∷ rest) in
+      let enough : length xs ≤ length (vs ++ (last ∷ rest)) = omega arith in
+      rw (split, append_assoc us vs (last ∷ rest))
+      (listed_step close x xs last (us ++ (vs ++ (last ∷ rest))) (vs ++ (last ∷ rest)) rest is (reads x us (vs ++ (last ∷ rest)) first)
+      (more_read later (length (vs ++ (last ∷ rest))) (last ∷ rest) enough (behind-other kind.Comma close last rest is apart)))
+
+  -- a list between brackets
+  pub between_read : (open_kind close : Kind) → same_kind close kind.Comma ≡ false → (xs : List X) (us rest : List Token) →
+      SpellsBetween open_kind close spells xs us → option_and_then (listed_from read close) (behind open_kind (us ++ rest)) ≡ Some (xs, rest)
+  between_read open_kind close apart xs us rest s =
+      rw (s.split, append_assoc s.inner (s.last ∷ []) rest)
+      (ap (option_and_then (listed_from read close)) (behind-here open_kind s.first (s.inner ++ (s.last ∷ rest)) s.opens) ∙
+      listed_read close apart xs s.inner s.listed s.last s.closes rest)
+
+variables_may : (t : Token) → t.kind ≡ kind.Upper → may_name naming.OfVariable t.kind ≡ true
+variables_may t is = ap (may_name naming.OfVariable) is
+
+naming_may : (t : Token) → IsNaming t → may_name naming.OfFormula t.kind ≡ true
+naming_may t (inl (inl is)) = ap (may_name naming.OfFormula) is
+naming_may t (inl (inr is)) = ap (may_name naming.OfFormula) is
+naming_may t (inr is) = ap (may_name naming.OfFormula) is
+
+file_may : (t : Token) → t.kind ≡ kind.Quoted → may_name naming.OfFile t.kind ≡ true
+file_may t is = ap (may_name naming.OfFile) is
+
+variable_read : ReadsSpelled SpellsVariable (name_from naming.OfVariable)
+variable_read = name_read naming.OfVariable (λ t. t.kind ≡ kind.Upper) variables_may
+
+naming_read : ReadsSpelled (SpellsName IsNaming) (name_from naming.OfFormula)
+naming_read = name_read naming.OfFormula IsNaming naming_may
+
+pub naming_here : (t : Token) (rest : List Token) → IsNaming t → name_from naming.OfFormula (t ∷ rest) ≡ Some (name_of t, rest)
+naming_here t rest is = name_here naming.OfFormula t rest (naming_may t is)
+
+pub file_here : (t : Token) (rest : List Token) → t.kind ≡ kind.Quoted → name_from naming.OfFile (t ∷ rest) ≡ Some (name_of t, rest)
+file_here t rest is = name_here naming.OfFile t rest (file_may t is)
+
+-- the variables of a quantifier
+pub variables_read : ReadsSpelled SpellsVariables (names_from naming.OfVariable)
+variables_read xs us rest s = between_read SpellsVariable (name_from naming.OfVariable) variable_read kind.OpenBracket kind.CloseBracket refl xs us rest s
+
+-- the names of a selection
+pub selection_read : ReadsSpelled (SpellsBetween kind.OpenBracket kind.CloseBracket (SpellsName IsNaming)) (names_from naming.OfFormula)
+selection_read names us rest s = between_read (SpellsName IsNaming) (name_from naming.OfFormula) naming_read kind.OpenBracket kind.CloseBracket refl names us rest s

@@ -1,0 +1,267 @@
+-- Single tokens: their marks, and what the watcher does at them.
+use Rattle.std.specs.Prelude.{◌≡◌, ◌+◌, ◌||◌, ◌&&◌, ◌⊎◌, ℕ, Bool, true, false, if◌then◌else◌, nat_le, List, [], ◌∷◌, Result, Ok, Err, Option, Some, None, IsTrue, codes, bytes_eq}
+use Rattle.std.specs.List.{list_any}
+use Rattle.std.proofs.Common.{refl, sym, ◌∙◌, ap, inl, inr, subst, arith}
+use Rattle.logic_core.specs.Lists.{IsAmong}
+use Rattle.logic_core.specs.Names.{Text, is_upper_word}
+use Rattle.logic_core.specs.declared.formula.Op.{Op}
+use Rattle.logic_core.specs.declared.formula.Op.TheVariants as op
+use Rattle.logic_core.specs.declared.problem.Role.{Role}
+use Rattle.logic_core.specs.declared.problem.Role.TheVariants.{Axiom, Hypothesis, Definition, Assumption, Lemma, Theorem, Corollary, NegatedConjecture, Conjecture}
+use Rattle.token_grammar.specs.Taken.Taken.{stop, token}
+use Rattle.tptp_lexer.specs.declared.kind.Kind.{Kind}
+use Rattle.tptp_lexer.specs.declared.kind.Kind.TheVariants as kind
+use Rattle.tptp_lexer.specs.Tokens.{Token, name_of, named}
+use Rattle.tptp_lexer.specs.Kinds.{kind_of, kind_among, kinds}
+use Rattle.tptp_grammar.specs.declared.limit.Limit.{Limit}
+use Rattle.tptp_grammar.specs.declared.limit.Limit.TheVariants.{FreeVariable}
+use Rattle.tptp_grammar.specs.declared.mark.Mark.{Mark}
+use Rattle.tptp_grammar.specs.declared.mark.Mark.TheVariants.{Fof, Include, Role as RoleMark, Truth, Upper}
+use Rattle.tptp_grammar.specs.declared.symbol.Symbol.TheVariants as symbol
+use Rattle.tptp_grammar.specs.Symbols.{takes, is_kind, is_lower, is_word, is_name, is_plain, is_upper, same_kind}
+use Rattle.tptp_grammar.specs.Limits.{Bindings, open_at, is_bound, used, look}
+use Rattle.tptp_grammar.specs.Marks.{mark_in, marked, lower_mark, dollar_mark, role_mark, role_of, role_text, number_of}
+use Rattle.tptp_grammar.specs.Spells.{IsWord, IsNaming, op_kind}
+use Rattle.tptp_grammar.proofs.Agreement.{Agrees, agrees_with}
+use Rattle.tptp_grammar.proofs.Bindings.{lower_open}
+use Rattle.tptp_grammar.proofs.Watching.{Watching, Goes, plain, same_result}
+
+-- no mark of its own tells a token of this kind
+abbrev pub is_other : Kind → Bool
+is_other kind.Lower = false
+is_other kind.Dollar = false
+is_other kind.Upper = false
+is_other kind.Implies = false
+is_other kind.Implied = false
+is_other kind.Iff = false
+is_other kind.Xor = false
+is_other kind.Nor = false
+is_other kind.Nand = false
+is_other _ = true
+
+other_mark : (all : List Token) (k : Kind) (text : Text) → is_other k ≡ true → is_kind k (marked all k text) ≡ true
+other_mark all kind.Lower text other = absurd (cc)
+other_mark all kind.Dollar text other = absurd (cc)
+other_mark all kind.Upper text other = absurd (cc)
+other_mark all kind.Implies text other = absurd (cc)
+other_mark all kind.Implied text other = absurd (cc)
+other_mark all kind.Iff text other = absurd (cc)
+other_mark all kind.Xor text other = absurd (cc)
+other_mark all kind.Nor text other = absurd (cc)
+other_mark all kind.Nand text other = absurd (cc)
+other_mark all _ text other = refl
+
+module _ (all : List Token) (t : Token) where
+  marked_as : (k : Kind) → t.kind ≡ k → mark_in all t ≡ marked all k t.text
+  marked_as k e = ap (λ j. marked all j t.text) e
+
+  pub takes_other : (k : Kind) → is_other k ≡ true → t.kind ≡ k → is_kind k (mark_in all t) ≡ true
+  takes_other k other e = ap (is_kind k) (marked_as k e) ∙ other_mark all k t.text other
+
+  is_lower_at : (a b : Bool) (role : Option Role) → is_lower (if a then Fof else (if b then Include else role_mark role)) ≡ true
+  is_lower_at true b role = refl
+  is_lower_at false true role = refl
+  is_lower_at false false (Some role) = refl
+  is_lower_at false false None = refl
+
+  is_lower_mark : is_lower (lower_mark t.text) ≡ true
+  is_lower_mark = is_lower_at (bytes_eq t.text (codes "fof")) (bytes_eq t.text (codes "include")) (role_of t.text)
+
+  is_word_mark : IsWord t → is_word (mark_in all t) ≡ true
+  is_word_mark (inl e) = ap is_word (marked_as kind.Lower e) ∙ ap (λ b. b || is_kind kind.Quoted (lower_mark t.text)) is_lower_mark
+  is_word_mark (inr e) = ap is_word (marked_as kind.Quoted e)
+
+  is_name_mark : IsNaming t → is_name (mark_in all t) ≡ true
+  is_name_mark (inl w) = ap (λ b. b || is_kind kind.Integer (mark_in all t)) (is_word_mark w)
+  is_name_mark (inr e) = ap is_name (marked_as kind.Integer e)
+
+  is_plain_mark : (t.kind ≡ kind.Upper) ⊎ ((t.kind ≡ kind.Integer) ⊎ (t.kind ≡ kind.Distinct)) → is_plain (mark_in all t) ≡ true
+  is_plain_mark (inl e) = ap is_plain (marked_as kind.Upper e)
+  is_plain_mark (inr (inl e)) = ap is_plain (marked_as kind.Integer e)
+  is_plain_mark (inr (inr e)) = ap is_plain (marked_as kind.Distinct e)
+
+  takes_op : (o : Op) → t.kind ≡ op_kind o → takes symbol.Connective (mark_in all t) ≡ true
+  takes_op op.Implies e = ap (takes symbol.Connective) (marked_as kind.Implies e)
+  takes_op op.Implied e = ap (takes symbol.Connective) (marked_as kind.Implied e)
+  takes_op op.Iff e = ap (takes symbol.Connective) (marked_as kind.Iff e)
+  takes_op op.Xor e = ap (takes symbol.Connective) (marked_as kind.Xor e)
+  takes_op op.Nor e = ap (takes symbol.Connective) (marked_as kind.Nor e)
+  takes_op op.Nand e = ap (takes symbol.Connective) (marked_as kind.Nand e)
+
+  truth_mark : (value : Bool) (text : Text) → t.kind ≡ kind.Dollar → t.text ≡ text → dollar_mark text ≡ Truth value →
+      takes symbol.TruthWord (mark_in all t) ≡ true
+  truth_mark value text e f g = ap (takes symbol.TruthWord) (marked_as kind.Dollar e ∙ (ap dollar_mark f ∙ g))
+
+  word_mark : (m : Mark) (text : Text) → t.kind ≡ kind.Lower → t.text ≡ text → lower_mark text ≡ m → mark_in all t ≡ m
+  word_mark m text e f g = marked_as kind.Lower e ∙ (ap lower_mark f ∙ g)
+
+role_marked : (role : Role) → lower_mark (role_text role) ≡ RoleMark role
+unfolding role_of
+role_marked Axiom = refl
+role_marked Hypothesis = refl
+role_marked Definition = refl
+role_marked Assumption = refl
+role_marked Lemma = refl
+role_marked Theorem = refl
+role_marked Corollary = refl
+role_marked NegatedConjecture = refl
+role_marked Conjecture = refl
+
+-- what a kind's text passes
+passed_at : (f : Kind → Bool) (k j : Kind) (rest : Option Kind) (text : Text) (a others : Bool) → f k ≡ true → (rest ≡ Some k → others ≡ true) →
+    (if a then Some j else rest) ≡ Some k → (f j && a) || others ≡ true
+passed_at f k j rest text true others h later e =
+    let same : j ≡ k = cc in ap (λ i. (f i && true) || others) same ∙ ap (λ b. (b && true) || others) h
+passed_at f k j rest text false others h later e = only (f j) (later e)
+  where
+    only : (b : Bool) → others ≡ true → (b && false) || others ≡ true
+    only true g = g
+    only false g = g
+
+passed : (f : Kind → Bool) (k : Kind) (text : Text) (table : List (Kind × (Text → Bool))) → f k ≡ true → kind_among table text ≡ Some k →
+    list_any (λ (row : Kind × (Text → Bool)). f row.0 && row.1 text) table ≡ true
+passed f k text [] h e = absurd (cc)
+passed f k text (row ∷ table) h e =
+    passed_at f k row.0 (kind_among table text) text (row.1 text) (list_any (λ (row : Kind × (Text → Bool)). f row.0 && row.1 text) table)
+    h (passed f k text table h) e
+
+pub upper_word : (text : Text) → kind_of text ≡ Some kind.Upper → is_upper_word text ≡ true
+unfolding kind_of
+upper_word text e = alone (is_upper_word text) (passed (λ k. same_kind k kind.Upper) kind.Upper text kinds refl e)
+  where
+    alone : (b : Bool) → b || false ≡ true → b ≡ true
+    alone true h = refl
+    alone false h = absurd (cc)
+
+pub upper_name : (t : Token) → t.kind ≡ kind.Upper → name_of t ≡ t.text
+upper_name t e = ap (λ k. named k t.text) e
+
+use_passes : (n : ℕ) (bindings : Bindings) → is_bound n bindings ≡ true → used n bindings ≡ Ok bindings
+use_passes n bindings h = rw h refl
+
+use_tells : (n : ℕ) (bindings after : Bindings) → used n bindings ≡ Ok after → (is_bound n bindings ≡ true) × (after ≡ bindings)
+use_tells n bindings after e = by (is_bound n bindings) refl e
+  where
+    by : (b : Bool) → is_bound n bindings ≡ b → ◌≡◌ {A = Result Bindings Limit} (if b then Ok bindings else Err FreeVariable) (Ok after) →
+        (is_bound n bindings ≡ true) × (after ≡ bindings)
+    by true h g = (h, sym (same_result bindings after g))
+    by false h g = absurd (cc)
+
+itself : (n : ℕ) → nat_le n n ≡ true
+itself n = grind arith
+
+not_below : (n : ℕ) → nat_le (n + 1) n ≡ false
+not_below n = grind arith
+
+-- a binding is open at its own level, and not at the one below
+opens_here : (level n : ℕ) (s : Bindings) → open_at level (record { level = level; variable = n } ∷ s) ≡ record { level = level; variable = n } ∷ open_at level s
+opens_here level n s = rw (itself level) refl
+
+opens_above : (level n : ℕ) (s : Bindings) → open_at level (record { level = level + 1; variable = n } ∷ s) ≡ open_at level s
+opens_above level n s = rw (not_below level) refl
+
+module _ (all : List Token) where
+  pub token_of : {low high : ℕ} {scope : List Text} (k : Kind) (t : Token) → is_other k ≡ true → t.kind ≡ k →
+      Watching all (symbol.Token k ∷ []) low high (t ∷ []) scope scope (Unit {0})
+  token_of k t other e = plain all (symbol.Token k) t (takes_other all t k other e) (λ s. refl)
+
+  pub closes_of : {low high : ℕ} {scope : List Text} (t : Token) → t.kind ≡ kind.CloseParenthesis →
+      Watching all (symbol.ClosesArguments ∷ []) low high (t ∷ []) scope scope (Unit {0})
+  closes_of t e = plain all symbol.ClosesArguments t (takes_other all t kind.CloseParenthesis refl e) (λ s. refl)
+
+  pub word_of : {low high : ℕ} {scope : List Text} (t : Token) → IsWord t →
+      Watching all (symbol.Word ∷ []) low high (t ∷ []) scope scope (Unit {0})
+  word_of t w = plain all symbol.Word t (is_word_mark all t w) (λ s. refl)
+
+  pub naming_of : {low high : ℕ} {scope : List Text} (t : Token) → IsNaming t →
+      Watching all (symbol.Name ∷ []) low high (t ∷ []) scope scope (Unit {0})
+  naming_of t w = plain all symbol.Name t (is_name_mark all t w) (λ s. refl)
+
+  pub plain_of : {low high : ℕ} {scope : List Text} (t : Token) → (t.kind ≡ kind.Upper) ⊎ ((t.kind ≡ kind.Integer) ⊎ (t.kind ≡ kind.Distinct)) →
+      Watching all (symbol.Plain ∷ []) low high (t ∷ []) scope scope (Unit {0})
+  plain_of t w = plain all symbol.Plain t (is_plain_mark all t w) (λ s. refl)
+
+  pub op_of : {low high : ℕ} {scope : List Text} (o : Op) (t : Token) → t.kind ≡ op_kind o →
+      Watching all (symbol.Connective ∷ []) low high (t ∷ []) scope scope (Unit {0})
+  op_of o t e = plain all symbol.Connective t (takes_op all t o e) (λ s. refl)
+
+  pub truth_of : {low high : ℕ} {scope : List Text} (value : Bool) (text : Text) (t : Token) → t.kind ≡ kind.Dollar → t.text ≡ text →
+      dollar_mark text ≡ Truth value → Watching all (symbol.TruthWord ∷ []) low high (t ∷ []) scope scope (Unit {0})
+  truth_of value text t e f g = plain all symbol.TruthWord t (truth_mark all t value text e f g) (λ s. refl)
+
+  pub fof_of : {low high : ℕ} {scope : List Text} (t : Token) → t.kind ≡ kind.Lower → t.text ≡ codes "fof" →
+      Watching all (symbol.FofWord ∷ []) low high (t ∷ []) scope scope (Unit {0})
+  fof_of t e f = plain all symbol.FofWord t (ap (takes symbol.FofWord) (word_mark all t Fof (codes "fof") e f refl)) (λ s. refl)
+
+  pub include_of : {low high : ℕ} {scope : List Text} (t : Token) → t.kind ≡ kind.Lower → t.text ≡ codes "include" →
+      Watching all (symbol.IncludeWord ∷ []) low high (t ∷ []) scope scope (Unit {0})
+  include_of t e f =
+      plain all symbol.IncludeWord t (ap (takes symbol.IncludeWord) (word_mark all t Include (codes "include") e f refl)) (λ s. refl)
+
+  pub role_of_token : {low high : ℕ} {scope : List Text} (role : Role) (t : Token) → t.kind ≡ kind.Lower → t.text ≡ role_text role →
+      Watching all (symbol.RoleWord ∷ []) low high (t ∷ []) scope scope (Unit {0})
+  role_of_token role t e f =
+      plain all symbol.RoleWord t (ap (takes symbol.RoleWord) told) (λ s. ap (look s symbol.RoleWord) told)
+    where
+      told : mark_in all t ≡ RoleMark role
+      told = word_mark all t (RoleMark role) (role_text role) e f (role_marked role)
+
+  -- a variable in a term
+  pub used_of : {level : ℕ} {scope : List Text} (t : Token) → t.kind ≡ kind.Upper →
+      Watching all (symbol.Variable level ∷ []) level level (t ∷ []) scope scope (IsAmong t.text scope × IsTrue (is_upper_word t.text))
+  used_of {level = level} {scope = scope} t e = record {
+    takers = symbol.Variable level ∷ [];
+    taken = token (ap is_upper told) (stop tt);
+    keeps = kept;
+    agrees = λ before after goes agree. subst (λ s. Agrees all s scope) (sym (kept before after goes)) agree;
+    passes = λ before within agree holds.
+        let bound = (agree t (within t (inl refl))).1 holds.0 in
+        (open_at level before, (open_at level before, looks before ∙ use_passes (number_of all t.text) (open_at level before) bound, refl));
+    tells = λ before after goes within proper agree. (
+      (agree t (within t (inl refl))).0 (tells_use before after goes).0,
+      upper_word t.text (proper t (within t (inl refl)) ∙ ap Some e),
+    );
+  }
+    where
+      told : mark_in all t ≡ Upper (number_of all t.text)
+      told = marked_as all t kind.Upper e
+
+      looks : (s : Bindings) → look s (symbol.Variable level) (mark_in all t) ≡ used (number_of all t.text) (open_at level s)
+      looks s = ap (look s (symbol.Variable level)) told
+
+      tells_use : (before after : Bindings) → Goes all before (symbol.Variable level ∷ []) (t ∷ []) after →
+          (is_bound (number_of all t.text) (open_at level before) ≡ true) × (after ≡ open_at level before)
+      tells_use before after goes =
+          let (bound, same) = use_tells (number_of all t.text) (open_at level before) goes.0 (sym (looks before) ∙ goes.1) in
+          (bound, goes.2 ∙ same)
+
+      kept : (before after : Bindings) → Goes all before (symbol.Variable level ∷ []) (t ∷ []) after → open_at level after ≡ open_at level before
+      kept before after goes = ap (open_at level) (tells_use before after goes).1 ∙ lower_open level level before (omega arith)
+
+  -- a variable in a quantifier's list
+  pub bound_of : {level : ℕ} {scope : List Text} (t : Token) → t.kind ≡ kind.Upper →
+      Watching all (symbol.Binds (level + 1) ∷ []) level (level + 1) (t ∷ []) scope (t.text ∷ scope) (IsTrue (is_upper_word t.text))
+  bound_of {level = level} {scope = scope} t e = record {
+    takers = symbol.Binds (level + 1) ∷ [];
+    taken = token (ap is_upper told) (stop tt);
+    keeps = λ before after goes.
+        ap (open_at level) (binds before after goes) ∙ opens_above level (number_of all t.text) before;
+    agrees = λ before after goes agree.
+        subst (λ s. Agrees all s (t.text ∷ scope))
+        (sym (ap (open_at (level + 1)) (binds before after goes) ∙ opens_here (level + 1) (number_of all t.text) before))
+        (agrees_with all (open_at (level + 1) before) scope (level + 1) t.text agree);
+    passes = λ before within agree holds. (with_it before, (with_it before, looks before, refl));
+    tells = λ before after goes within proper agree. upper_word t.text (proper t (within t (inl refl)) ∙ ap Some e);
+  }
+    where
+      told : mark_in all t ≡ Upper (number_of all t.text)
+      told = marked_as all t kind.Upper e
+
+      with_it : Bindings → Bindings
+      with_it s = record { level = level + 1; variable = number_of all t.text } ∷ s
+
+      looks : (s : Bindings) → look s (symbol.Binds (level + 1)) (mark_in all t) ≡ Ok (with_it s)
+      looks s = ap (look s (symbol.Binds (level + 1))) told
+
+      binds : (before after : Bindings) → Goes all before (symbol.Binds (level + 1) ∷ []) (t ∷ []) after → after ≡ with_it before
+      binds before after goes = goes.2 ∙ same_result goes.0 (with_it before) (sym goes.1 ∙ looks before)

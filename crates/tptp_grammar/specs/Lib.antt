@@ -1,0 +1,13 @@
+pub mod Symbols
+pub mod SymbolsLaw
+pub mod Printed
+pub mod PrintedLaw
+pub mod Limits
+pub mod Marks
+pub mod Numbering
+pub mod Spells
+pub mod Texts
+pub mod Told
+pub mod Reading
+pub mod Counts
+pub mod Stepping

@@ -1,0 +1,13 @@
+/// Why a token is refused with which the tokens still begin a text.
+#[derive(Clone, Copy, Debug)]
+pub enum Limit {
+    /// It opens a level above `MOST_LEVELS`.
+    TooDeep,
+    /// It stands in the place of a role and tells none.
+    UnknownRole,
+    /// It is a variable in a term that no quantifier binds.
+    FreeVariable,
+}
+
+/// The greatest level that a token may open.
+pub const MOST_LEVELS: u32 = 200;
