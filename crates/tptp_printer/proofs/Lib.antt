@@ -1,0 +1,9 @@
+pub mod Joined
+pub mod Opened
+pub mod Pieces
+pub mod Marks
+pub mod Words
+pub mod Listed
+pub mod Shut
+pub mod Formulas
+pub mod Items

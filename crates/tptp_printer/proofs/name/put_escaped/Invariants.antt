@@ -1,0 +1,7 @@
+use Rattle.std.proofs.Common.{◌≡◌, ◌++◌, drop}
+use Rattle.tptp_printer.specs.Canonical.{escaped}
+use Rattle.tptp_printer.proofs.name.put_escaped.Given as goal
+
+-- what is appended, and what the other bytes add
+abbrev pub invariant-loop-byte : goal.invariant-loop-byte
+invariant-loop-byte l = l.out ++ escaped (drop l.byte-index l.bytes) ≡ l.fn.out ++ escaped l.bytes

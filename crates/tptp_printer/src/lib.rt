@@ -1,0 +1,12 @@
+//! The canonical text of problems in the TPTP's first-order form.
+#![tactic(auto)]
+
+mod formula;
+mod item;
+mod name;
+mod print;
+mod term;
+#[cfg(test)]
+mod tests;
+
+pub use print::{print_item, print_problem};

@@ -1,0 +1,137 @@
+ghost use Rattle.std.specs.Prelude.{◌≡◌, ◌++◌, OnOk};
+ghost use Rattle.std.specs.List.{list_all};
+ghost use Rattle.logic_core.specs.Names as names;
+ghost use Rattle.tptp_lexer.specs.Kinds as kinds;
+ghost use Rattle.tptp_printer.specs.Canonical.{escaped, quoted_text, word_text, name_text};
+
+use logic_core::{Bytes, Memory, Name};
+
+/// Whether a byte is one of `a` to `z`.
+fn is_lower(byte: u8) -> bool
+    ensures { result ≡ names.is_lower byte }
+{
+    b'a' <= byte && byte <= b'z'
+}
+
+/// Whether a byte is one of `A` to `Z`.
+fn is_upper(byte: u8) -> bool
+    ensures { result ≡ names.is_upper byte }
+{
+    b'A' <= byte && byte <= b'Z'
+}
+
+/// Whether a byte is one of `0` to `9`.
+fn is_digit(byte: u8) -> bool
+    ensures { result ≡ names.is_digit byte }
+{
+    b'0' <= byte && byte <= b'9'
+}
+
+/// Whether a word may go on with a byte: a letter, a digit or `_`.
+fn is_word(byte: u8) -> bool
+    ensures { result ≡ names.is_word byte }
+{
+    is_lower(byte) || is_upper(byte) || is_digit(byte) || byte == b'_'
+}
+
+/// Whether a word may go on with each byte.
+fn are_word_bytes(bytes: &[u8]) -> bool
+    ensures { result ≡ list_all names.is_word bytes.now }
+{
+    bytes.iter().all(|byte| is_word(*byte))
+}
+
+/// Whether each byte is a digit.
+fn are_digits(bytes: &[u8]) -> bool
+    ensures { result ≡ list_all names.is_digit bytes.now }
+{
+    bytes.iter().all(|byte| is_digit(*byte))
+}
+
+/// Whether a text is a word that begins with a lower letter.
+fn is_lower_word(text: &[u8]) -> bool
+    ensures { result ≡ names.is_word_from names.is_lower text.now }
+{
+    match text {
+        [] => false,
+        [first, rest @ ..] => is_lower(*first) && are_word_bytes(rest),
+    }
+}
+
+/// Whether a text is a natural number.
+fn is_natural(text: &[u8]) -> bool
+    ensures { result ≡ kinds.is_natural text.now }
+{
+    match text {
+        [] => false,
+        [b'0', rest @ ..] => rest.is_empty(),
+        [first, rest @ ..] => is_digit(*first) && are_digits(rest),
+    }
+}
+
+/// Whether a text is an integer.
+fn is_integer(text: &[u8]) -> bool
+    ensures { result ≡ kinds.is_integer text.now }
+{
+    match text {
+        [] => false,
+        [b'+' | b'-', rest @ ..] => is_natural(rest),
+        _ => is_natural(text),
+    }
+}
+
+/// Appends bytes, with a backslash before each quote and backslash.
+fn put_escaped(bytes: &[u8], out: &mut Bytes) -> Result<(), Memory>
+    ensures { OnOk result (out.new ≡ out.old ++ escaped bytes.now) }
+{
+    for byte in bytes {
+        if *byte == b'\'' || *byte == b'\\' {
+            out.push(b'\\')?;
+        }
+        out.push(*byte)?;
+    }
+    Ok(())
+}
+
+/// Appends bytes in single quotes.
+fn put_quoted(bytes: &[u8], out: &mut Bytes) -> Result<(), Memory>
+    ensures { OnOk result (out.new ≡ out.old ++ quoted_text bytes.now) }
+{
+    out.push(b'\'')?;
+    put_escaped(bytes, out)?;
+    out.push(b'\'')
+}
+
+/// Appends a predicate or a constant.
+pub(crate) fn put_word(name: &Name, out: &mut Bytes) -> Result<(), Memory>
+    ensures text { OnOk result (out.new ≡ out.old ++ word_text name.now) }
+    ensures named { names.IsNameText name.now }
+{
+    let bytes = name.bytes();
+    if is_lower_word(bytes) {
+        out.extend_from_slice(bytes)
+    } else {
+        put_quoted(bytes, out)
+    }
+}
+
+/// Appends the name of a formula.
+pub(crate) fn put_name(name: &Name, out: &mut Bytes) -> Result<(), Memory>
+    ensures text { OnOk result (out.new ≡ out.old ++ name_text name.now) }
+    ensures named { names.IsNameText name.now }
+{
+    let bytes = name.bytes();
+    if is_lower_word(bytes) || is_integer(bytes) {
+        out.extend_from_slice(bytes)
+    } else {
+        put_quoted(bytes, out)
+    }
+}
+
+/// Appends the name of a file.
+pub(crate) fn put_file(name: &Name, out: &mut Bytes) -> Result<(), Memory>
+    ensures text { OnOk result (out.new ≡ out.old ++ quoted_text name.now) }
+    ensures named { names.IsNameText name.now }
+{
+    put_quoted(name.bytes(), out)
+}
