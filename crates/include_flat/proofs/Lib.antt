@@ -1,0 +1,9 @@
+pub mod OneWalk
+pub mod Decisions
+pub mod OneAnswer
+pub mod Selecting
+pub mod Known
+pub mod Opening
+pub mod Passing
+pub mod Alike
+pub mod Flat

@@ -1,0 +1,80 @@
+-- What decides a walk, and the problem that it gives where nothing does.
+use Rattle.std.specs.Prelude.{ℕ, ◌+◌, ◌≡◌, ◌⊎◌, nat_lt, nat_le, Bool, true, false, List, [], ◌∷◌, ◌++◌, Option, Some, None, if◌then◌else◌}
+use Rattle.logic_core.specs.Names.{Text}
+use Rattle.logic_core.specs.declared.problem.Fof.{Fof}
+use Rattle.io_core.specs.Causes.{Held}
+use Rattle.include_flat.specs.declared.refusal.FlatWhy.{FlatWhy}
+use Rattle.include_flat.specs.declared.refusal.FlatWhy.TheVariants.{FileFault, FileTooLong, AllTooLong, TooManyFormulas, Memory}
+use Rattle.include_flat.specs.Walks.{Entry, WalksFile}
+use Rattle.include_flat.specs.Walks.Entry.{fetched, kept, missing, stop}
+
+-- the greatest number of bytes of all files, each fetch counted
+abbrev pub most_total : ℕ
+most_total = 8388608
+
+-- the greatest number of formulas that are kept
+abbrev pub most_formulas : ℕ
+most_formulas = 65536
+
+-- how many inclusions may stand one in another, with the first file
+abbrev pub most_files : ℕ
+most_files = 17
+
+-- what decides a walk: a file that the files do not hold, or a refusal of a file
+pub data Decision : Type 0 where
+  is_missing : Text → Decision
+  is_refused : Text → FlatWhy → Decision
+
+-- the first entry that decides, after so many bytes and so many kept formulas
+abbrev pub decision_after : ℕ → ℕ → List Entry → Option Decision
+decision_after bytes formulas [] = None
+decision_after bytes formulas (missing file ∷ entries) = Some (is_missing file)
+decision_after bytes formulas (stop file why ∷ entries) = Some (is_refused file why)
+decision_after bytes formulas (fetched file n ∷ entries) =
+    if nat_lt most_total (bytes + n) then Some (is_refused file AllTooLong) else decision_after (bytes + n) formulas entries
+decision_after bytes formulas (kept file fof ∷ entries) =
+    if nat_le most_formulas formulas then Some (is_refused file TooManyFormulas) else decision_after bytes (formulas + 1) entries
+
+abbrev pub decision : List Entry → Option Decision
+decision entries = decision_after 0 0 entries
+
+-- the formulas that are kept
+abbrev pub kept_of : List Entry → List Fof
+kept_of [] = []
+kept_of (kept file fof ∷ entries) = fof ∷ kept_of entries
+kept_of (_ ∷ entries) = kept_of entries
+
+-- the walk from a first file on, whole or up to some entry
+abbrev pub Walks : Held → Bool → Text → List Entry → Type 0
+Walks held whole name entries = WalksFile held whole most_files [] name entries
+
+-- nothing decides the walk, and these are its formulas
+abbrev pub IsFlat : Held → Text → List Fof → Type 0
+IsFlat held name problem = (entries : List Entry) × Walks held true name entries × (decision entries ≡ None) × (problem ≡ kept_of entries)
+
+-- the walk is decided by a refusal of this file
+abbrev pub IsFlatRefused : Held → Text → Text → FlatWhy → Type 0
+IsFlatRefused held name file why = (entries : List Entry) × Walks held false name entries × (decision entries ≡ Some (is_refused file why))
+
+-- the entry comes from asking for this file
+abbrev pub AsksFor : Text → Entry → Type 0
+AsksFor file (fetched asked n) = asked ≡ file
+AsksFor file (missing asked) = asked ≡ file
+AsksFor file (stop asked FileTooLong) = asked ≡ file
+AsksFor file entry = ⊥
+
+-- the walk asks for this file, and nothing decides it before
+abbrev pub IsAskedFor : Held → Text → Text → Type 0
+IsAskedFor held name file = (entries : List Entry) × (entry : Entry) × Walks held false name (entries ++ entry ∷ []) × AsksFor file entry ×
+    (decision entries ≡ None)
+
+-- a refusal of the files is the one that decides the walk; a fault of a fetch is told of a file that was asked for; want of memory
+-- may come anywhere
+abbrev pub IsFlatRefusal : Held → Text → Text → FlatWhy → Type 0
+IsFlatRefusal held name file Memory = file ≡ []
+IsFlatRefusal held name file FileFault = IsAskedFor held name file
+IsFlatRefusal held name file why = IsFlatRefused held name file why
+
+-- the outside failed, or memory ran out
+abbrev pub IsOutside : FlatWhy → Type 0
+IsOutside why = (why ≡ FileFault) ⊎ (why ≡ Memory)

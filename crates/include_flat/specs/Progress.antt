@@ -1,0 +1,99 @@
+-- How a part of a walk goes on from what was walked before.
+use Rattle.std.specs.Prelude.{ℕ, suc, ◌+◌, ◌≡◌, ◌≤◌, Bool, true, false, List, [], ◌∷◌, ◌++◌, length, Option, Some, None, IfSome}
+use Rattle.std.specs.FinMap as finite
+use Rattle.logic_core.specs.Names.{Text}
+use Rattle.logic_core.specs.declared.problem.Fof.{Fof}
+use Rattle.logic_core.specs.declared.problem.Item.{Item}
+use Rattle.io_core.specs.Causes.{Held}
+use Rattle.include_flat.specs.declared.refusal.FlatWhy.{FlatWhy}
+use Rattle.include_flat.specs.declared.refusal.FlatWhy.TheVariants.{FileFault, TooManyFormulas, Memory}
+use Rattle.include_flat.specs.declared.walked.Walked.{Walked}
+use Rattle.include_flat.specs.Walks.{Entry, Selections, WalksFile, WalksItems, is_selected, kept_entries, most_bytes}
+use Rattle.include_flat.specs.Walks.Entry.{fetched}
+use Rattle.include_flat.specs.Flattened.{Decision, decision_after, is_refused, kept_of, AsksFor}
+use Rattle.include_flat.specs.Outside.{Known, Stays, Leaves}
+use Rattle.include_flat.specs.Opened.{AreBytesOf}
+
+-- how many bytes are fetched
+abbrev pub bytes_of : List Entry → ℕ
+bytes_of [] = 0
+bytes_of (fetched file n ∷ entries) = n + bytes_of entries
+bytes_of (_ ∷ entries) = bytes_of entries
+
+-- what decides entries after what was walked before
+abbrev pub decided : Walked → List Entry → Option Decision
+decided before entries = decision_after before.bytes (length before.problem) entries
+
+-- nothing decides the entries, and with them so much is walked
+pub record Passes (before : Walked) (entries : List Entry) (after : Walked) : Type 0 where
+  pub undecided : decided before entries ≡ None
+  pub bytes : after.bytes ≡ before.bytes + bytes_of entries
+  pub problem : after.problem ≡ before.problem ++ kept_of entries
+
+-- a refusal ends a walk that has these fronts
+abbrev pub Refuses : (List Entry → Type 0) → Walked → Text → FlatWhy → Type 0
+Refuses Front before file Memory = file ≡ []
+Refuses Front before file FileFault =
+    (entries : List Entry) × (entry : Entry) × Front (entries ++ entry ∷ []) × AsksFor file entry × (decided before entries ≡ None)
+Refuses Front before file why = (entries : List Entry) × Front entries × (decided before entries ≡ Some (is_refused file why))
+
+-- the entries of a part of a walk, by what is held and whether they are looked at whole
+abbrev pub over_file : ℕ → Selections → Text → Held → Bool → List Entry → Type 0
+over_file left selections file held whole entries = WalksFile held whole left selections file entries
+
+abbrev pub over_items : ℕ → Selections → Text → List Item → Held → Bool → List Entry → Type 0
+over_items left selections file items held whole entries = WalksItems held whole left selections file items entries
+
+-- a part of a walk is passed whole
+pub record PassesWhole (Part : Bool → List Entry → Type 0) (before after : Walked) : Type 0 where
+  pub entries : List Entry
+  pub walk : Part true entries
+  pub passed : Passes before entries after
+
+pub record PassesOver (Part : Held → Bool → List Entry → Type 0) (files later : Known) (before after : Walked) : Type 0 where
+  pub stays : Stays files later
+  pub whole : IfSome files.held (λ held. PassesWhole (Part held) before after)
+
+-- a refusal ends a part of a walk
+pub record RefusesOver (Part : Held → Bool → List Entry → Type 0) (files later : Known) (before : Walked) (file : Text) (why : FlatWhy) : Type 0 where
+  pub leaves : Leaves files later file why
+  pub ends : IfSome files.held (λ held. Refuses (Part held false) before file why)
+
+-- a file is fetched, and its bytes are a text of these items
+pub record OpensTo (held : Held) (file : Text) (items : List Item) (before after : Walked) : Type 0 where
+  pub bytes : Text
+  pub held_is : finite.get held file ≡ Some bytes
+  pub short : length bytes ≤ most_bytes
+  pub read : AreBytesOf bytes items
+  pub passed : Passes before (fetched file (length bytes) ∷ []) after
+
+pub record Opens (files later : Known) (file : Text) (items : List Item) (before after : Walked) : Type 0 where
+  pub stays : Stays files later
+  pub opens : IfSome files.held (λ held. OpensTo held file items before after)
+
+-- the file of a refusal: none for want of memory
+abbrev pub refused_file : Text → FlatWhy → Text
+refused_file file Memory = []
+refused_file file why = file
+
+-- a file is refused, at whatever place of a walk it stands
+pub record IsRefusedAt (held : Held) (file : Text) (before : Walked) (why : FlatWhy) : Type 0 where
+  pub anywhere : (left : ℕ) (selections : Selections) → Refuses (WalksFile held false (suc left) selections file) before (refused_file file why) why
+
+pub record Refused (files later : Known) (file : Text) (before : Walked) (why : FlatWhy) : Type 0 where
+  pub leaves : Leaves files later file why
+  pub ends : IfSome files.held (λ held. IsRefusedAt held file before why)
+
+-- a formula is one too many, in whatever file it stands
+abbrev pub IsTooMany : Walked → Selections → Fof → Type 0
+IsTooMany before selections fof =
+    (file : Text) → decided before (kept_entries file selections fof) ≡ Some (is_refused file TooManyFormulas)
+
+-- the selections of a set of names, if there is one
+abbrev pub selections_of : Option (List Text) → Selections
+selections_of None = []
+selections_of (Some names) = names ∷ []
+
+-- the same names are in every selection
+pub record AreAlike (selections others : Selections) : Type 0 where
+  pub alike : (name : Text) → is_selected selections name ≡ is_selected others name

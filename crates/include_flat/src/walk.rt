@@ -1,0 +1,143 @@
+ghost use Rattle.std.specs.Prelude.{◌≡◌, ◌≤◌, ◌⊎◌, List as Lst, IfSome, IfOk, IfErr, OnOk, MatchResult};
+ghost use Rattle.logic_core.specs.Names.{Text};
+ghost use Rattle.logic_core.specs.declared.problem.Fof.{Fof as Formula};
+ghost use Rattle.io_core.specs.Causes.{Rose};
+ghost use Rattle.include_flat.specs.declared.refusal.FlatWhy.{FlatWhy as Why};
+ghost use Rattle.include_flat.specs.declared.refusal.FlatWhy.TheVariants as whys;
+ghost use Rattle.logic_core.specs.Problems.{FofMayStand};
+ghost use Rattle.include_flat.specs.Flattened.{IsFlat, IsFlatRefused, IsFlatRefusal, IsOutside};
+ghost use Rattle.include_flat.specs.Walks.{with_selection, kept_entries};
+ghost use Rattle.include_flat.specs.Outside.{known};
+ghost use Rattle.include_flat.specs.Progress.{selections_of, over_file, over_items, Passes, IsTooMany, PassesOver, RefusesOver};
+
+use crate::reading::fetched_items;
+use crate::refusal::{FlatRefusal, FlatWhy};
+use crate::selected::Selected;
+use crate::walked::Walked;
+use io_core::Files;
+use logic_core::{Bytes, Fof, Item, Items, List, Name, Problem};
+use std::alloc::Global;
+
+/// The greatest number of inclusions that stand one in another, with the first file.
+const MOST_FILES: u32 = 17;
+
+/// The formulas of a problem's file, with those of each included file in the place of its inclusion, in order. A formula is kept where
+/// its name is in every selection on the way from the first file. Each inclusion fetches its file anew.
+///
+/// The refusal tells the file: one that could not be fetched, only where the files' count of faults rose; one of more than 4,194,304
+/// bytes, one with which all fetched bytes are more than 8,388,608, one at depth 17, one with a 65,537th formula to keep; and one that
+/// has no tokens, or whose tokens are no text of items. `Memory` is want of memory. Source: the TPTP syntax, `include`.
+pub fn flatten<F: Files>(alloc: Global, files: &mut F, name: &[u8]) -> Result<Problem, FlatRefusal>
+    ensures flat { IfSome (F.held files.old) (λ held. IfOk result (λ problem. IsFlat held name.now problem)) }
+    ensures refused { IfSome (F.held files.old) (λ held. IfErr result (λ refusal. IsFlatRefusal held name.now refusal.file refusal.why)) }
+    // Where nothing decides the walk, the answer is its formulas, unless the outside fails or memory runs out.
+    ensures found { IfSome (F.held files.old) (λ held. (problem : Lst Formula) → IsFlat held name.now problem
+        → MatchResult result (λ read. read ≡ problem) (λ refusal. IsOutside refusal.why)) }
+    // Where a refusal decides the walk, the answer is that one, unless the outside fails or memory runs out.
+    ensures told { IfSome (F.held files.old) (λ held. (file : Text) (why : Why) → IsFlatRefused held name.now file why
+        → MatchResult result (λ read. ⊥) (λ refusal. IsOutside refusal.why ⊎ ((refusal.file ≡ file) × (refusal.why ≡ why)))) }
+    ensures fault { IfErr result (λ refusal. refusal.why ≡ whys.FileFault → Rose (F.faults files.old) (F.faults files.new)) }
+    ensures blames { IfSome (F.blamed files.new) (λ blamed. IfErr result (λ refusal. refusal.why ≡ whys.FileFault → blamed ≡ refusal.file)) }
+    ensures blamed_stays { (IfErr result (λ refusal. refusal.why ≡ whys.FileFault → ⊥)) → F.blamed files.new ≡ F.blamed files.old }
+    ensures held_stays { F.held files.new ≡ F.held files.old }
+    ensures faults_grow { F.faults files.old ≤ F.faults files.new }
+    ensures given_grows { F.given files.old ≤ F.given files.new }
+{
+    let mut walked = Walked::new(alloc);
+    let selected = Selected::all();
+    match walk_file(alloc, files, &mut walked, name, &selected, MOST_FILES) {
+        Ok(()) => Ok(walked.into_problem()),
+        Err(refusal) => Err(refusal),
+    }
+}
+
+/// Walks over a file; so many further levels of inclusion are allowed.
+#[cycle(walk)]
+#[tactic(auto, using(crate::proofs::Passing::files_walked))]
+fn walk_file<F: Files>(
+    alloc: Global,
+    files: &mut F,
+    walked: &mut Walked,
+    name: &[u8],
+    selected: &Selected,
+    left: u32,
+) -> Result<(), FlatRefusal>
+    ensures passes { IfOk result (λ done. PassesOver (over_file left (selections_of selected.now) name.now) (known (F.held files.old) (F.faults files.old) (F.given files.old) (F.blamed files.old)) (known (F.held files.new) (F.faults files.new) (F.given files.new) (F.blamed files.new)) walked.old walked.new) }
+    ensures refused { IfErr result (λ refusal. RefusesOver (over_file left (selections_of selected.now) name.now) (known (F.held files.old) (F.faults files.old) (F.given files.old) (F.blamed files.old)) (known (F.held files.new) (F.faults files.new) (F.given files.new) (F.blamed files.new)) walked.old refusal.file refusal.why) }
+{
+    let file = match Bytes::from_slice(alloc, name) {
+        Ok(file) => file,
+        Err(_) => return Err(FlatRefusal::of(alloc, Bytes::new(alloc), FlatWhy::Memory)),
+    };
+    if left == 0 {
+        return Err(FlatRefusal::of(alloc, file, FlatWhy::IncludeDepth));
+    }
+    match fetched_items(alloc, files, walked, name) {
+        Ok(items) => walk_items(alloc, files, walked, file, items, selected, left - 1),
+        Err(why) => Err(FlatRefusal::of(alloc, file, why)),
+    }
+}
+
+/// Walks over the items of a file.
+#[cycle(walk)]
+fn walk_items<F: Files>(
+    alloc: Global,
+    files: &mut F,
+    walked: &mut Walked,
+    file: Bytes,
+    items: Items,
+    selected: &Selected,
+    left: u32,
+) -> Result<(), FlatRefusal>
+    ensures passes { IfOk result (λ done. PassesOver (over_items left (selections_of selected.now) file items) (known (F.held files.old) (F.faults files.old) (F.given files.old) (F.blamed files.old)) (known (F.held files.new) (F.faults files.new) (F.given files.new) (F.blamed files.new)) walked.old walked.new) }
+    ensures refused { IfErr result (λ refusal. RefusesOver (over_items left (selections_of selected.now) file items) (known (F.held files.old) (F.faults files.old) (F.given files.old) (F.blamed files.old)) (known (F.held files.new) (F.faults files.new) (F.given files.new) (F.blamed files.new)) walked.old refusal.file refusal.why) }
+{
+    for item in items.into_list().into_vec() {
+        match item {
+            Item::Fof(fof) => {
+                if let Err(why) = keep_selected(walked, selected, fof) {
+                    return Err(FlatRefusal::of(alloc, file, why));
+                }
+            }
+            Item::Include { file: name, only } => {
+                walk_inclusion(alloc, files, walked, name, only, selected, left)?;
+            }
+        }
+    }
+    Ok(())
+}
+
+/// Walks over an included file.
+#[cycle(walk)]
+fn walk_inclusion<F: Files>(
+    alloc: Global,
+    files: &mut F,
+    walked: &mut Walked,
+    name: Name,
+    only: Option<List<Name>>,
+    selected: &Selected,
+    left: u32,
+) -> Result<(), FlatRefusal>
+    ensures passes { IfOk result (λ done. PassesOver (over_file left (with_selection only (selections_of selected.now)) name) (known (F.held files.old) (F.faults files.old) (F.given files.old) (F.blamed files.old)) (known (F.held files.new) (F.faults files.new) (F.given files.new) (F.blamed files.new)) walked.old walked.new) }
+    ensures refused { IfErr result (λ refusal. RefusesOver (over_file left (with_selection only (selections_of selected.now)) name) (known (F.held files.old) (F.faults files.old) (F.given files.old) (F.blamed files.old)) (known (F.held files.new) (F.faults files.new) (F.given files.new) (F.blamed files.new)) walked.old refusal.file refusal.why) }
+{
+    match only {
+        None => walk_file(alloc, files, walked, name.bytes(), selected, left),
+        Some(names) => match selected.within(alloc, names) {
+            Ok(inner) => walk_file(alloc, files, walked, name.bytes(), &inner, left),
+            Err(_) => Err(FlatRefusal::of(alloc, Bytes::new(alloc), FlatWhy::Memory)),
+        },
+    }
+}
+
+/// Keeps a formula whose name is in every selection.
+fn keep_selected(walked: &mut Walked, selected: &Selected, fof: Fof) -> Result<(), FlatWhy>
+    requires { FofMayStand fof }
+    ensures passes { OnOk result ((file : Text) → Passes walked.old (kept_entries file (selections_of selected.now) fof) walked.new) }
+    ensures refused { IfErr result (λ why. (why ≡ whys.Memory) ⊎ ((why ≡ whys.TooManyFormulas) × IsTooMany walked.old (selections_of selected.now) fof)) }
+{
+    if selected.has(&fof.name) {
+        walked.keep(fof)?;
+    }
+    Ok(())
+}
