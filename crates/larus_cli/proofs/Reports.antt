@@ -1,20 +1,26 @@
 -- What is known of files, where they tell what they hold.
-use Rattle.std.specs.Prelude.{List, Option, Some, None, IfSome}
+use Rattle.std.specs.Prelude.{◌≡◌, List, Option, Some, None, IfSome}
 use Rattle.logic_core.specs.Names.{Text}
+use Rattle.logic_core.specs.declared.problem.Fof.{Fof}
 use Rattle.io_core.specs.Causes.{Held}
+use Rattle.include_flat.specs.Flattened.{IsFlat}
 use Rattle.proof_checker.specs.declared.ground.GroundFormula.{GroundFormula}
-use Rattle.proof_checker.specs.declared.ground.CitedFact.{CitedFact}
-use Rattle.proof_checker.specs.Ground.{IsGroundProblem, IsGroundProof}
-use Rattle.larus_cli.specs.declared.report.FileRefusal.TheVariants.{NotBuilt}
-use Rattle.larus_cli.specs.declared.report.Report.TheVariants.{ProblemFile, ProofFile}
-use Rattle.larus_cli.specs.Outcome.{HoldsBytes, ProofReported, Reported}
+use Rattle.proof_checker.specs.declared.words.NotRead.TheVariants as unread
+use Rattle.proof_checker.specs.Ground.{IsGroundProof}
+use Rattle.proof_checker.specs.Unread.{IsUnread}
+use Rattle.tptp_printer.specs.Canonical.{problem_text}
+use Rattle.larus_cli.specs.declared.report.ProofRefusal.TheVariants as proof
+use Rattle.larus_cli.specs.declared.report.Report.TheVariants.{Converted, ProofFile}
+use Rattle.larus_cli.specs.Outcome.{HoldsBytes, ReadsBack, ConvertReported, ProofReported}
 
-pub proof_not_built : (held : Option Held) (problem : List GroundFormula) (name bytes : Text) → IfSome held (λ h. HoldsBytes h name bytes) → ((steps : List CitedFact) → IsGroundProof bytes steps → ⊥)
-    → IfSome held (λ h. ProofReported h problem name (ProofFile NotBuilt))
-proof_not_built None problem name bytes holds none = tt
-proof_not_built (Some h) problem name bytes holds none = (bytes, holds, none)
+-- bytes that are held and read as no proof
+pub not_built : (held : Option Held) (ground : List GroundFormula) (name bytes : Text) → IfSome held (λ h. HoldsBytes h name bytes) →
+    IsUnread IsGroundProof bytes unread.NotBuilt → IfSome held (λ h. ProofReported h ground name (ProofFile proof.NotBuilt))
+not_built None ground name bytes holds none = tt
+not_built (Some h) ground name bytes holds none = (bytes, holds, none)
 
-pub problem_not_built : (held : Option Held) (name proof bytes : Text) → IfSome held (λ h. HoldsBytes h name bytes) → ((problem : List GroundFormula) → IsGroundProblem bytes problem → ⊥)
-    → IfSome held (λ h. Reported h name proof (ProblemFile NotBuilt))
-problem_not_built None name proof bytes holds none = tt
-problem_not_built (Some h) name proof bytes holds none = (bytes, holds, none)
+-- a problem that is flat is printed
+pub converted : (held : Option Held) (problem text : Text) (formulas : List Fof) → IfSome held (λ h. IsFlat h problem formulas) →
+    text ≡ problem_text formulas → ReadsBack text formulas → IfSome held (λ h. ConvertReported h problem (Converted text))
+converted None problem text formulas flat_are text_is back = tt
+converted (Some h) problem text formulas flat_are text_is back = (formulas, flat_are, text_is, back)

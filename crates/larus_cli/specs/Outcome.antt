@@ -1,55 +1,85 @@
 -- How a run of the program ends: what its answer says of the files, where the answer goes, and what causes each status.
-use Rattle.std.specs.Prelude.{ℕ, ◌≡◌, ◌≢◌, ◌≤◌, ◌⊎◌, ◌++◌, true, false, List, [], ◌∷◌, length, Option, Some, None, IfSome, codes, map}
+use Rattle.std.specs.Prelude.{ℕ, ◌≡◌, ◌≢◌, ◌≤◌, ◌⊎◌, ◌++◌, Bool, true, false, List, [], ◌∷◌, length, Option, Some, None, IfSome, codes, map}
 use Rattle.std.specs.FinMap as finite
 use Rattle.logic_core.specs.Names.{Text}
 use Rattle.logic_core.specs.Truth.{Structure}
 use Rattle.logic_core.specs.Problems.{Follows}
+use Rattle.logic_core.specs.declared.problem.Fof.{Fof}
+use Rattle.logic_core.specs.declared.problem.Item.TheVariants.{Fof as ItemFof}
 use Rattle.io_core.specs.Causes.{Held, Rose, IsLong, AppendsPrefix}
+use Rattle.tptp_lexer.specs.Tokens.{Token, AreTokens}
+use Rattle.tptp_grammar.specs.Texts.{AreItemsOf}
+use Rattle.tptp_printer.specs.Canonical.{problem_text}
+use Rattle.include_flat.specs.declared.refusal.FlatWhy.{FlatWhy}
+use Rattle.include_flat.specs.declared.refusal.FlatWhy.TheVariants as flat
+use Rattle.include_flat.specs.Walks.{most_bytes}
+use Rattle.include_flat.specs.Flattened.{IsFlat, IsFlatRefused, IsAskedFor}
 use Rattle.proof_checker.specs.declared.ground.GroundFormula.{GroundFormula}
-use Rattle.proof_checker.specs.declared.ground.CitedFact.{CitedFact}
-use Rattle.proof_checker.specs.Ground.{IsGroundProblem, IsGroundProof, fof_of}
+use Rattle.proof_checker.specs.declared.words.NotRead.{NotRead}
+use Rattle.proof_checker.specs.declared.words.NotRead.TheVariants as unread
+use Rattle.proof_checker.specs.Ground.{IsGroundProblem, IsGroundProof}
+use Rattle.proof_checker.specs.Unread.{IsUnread}
 use Rattle.proof_checker.specs.Accepted.{AcceptsWith, Refuses}
-use Rattle.larus_cli.specs.declared.report.FileRefusal.TheVariants.{FileFault, FileTooLong, NotBuilt}
+use Rattle.larus_cli.specs.declared.report.ProofRefusal.{ProofRefusal}
+use Rattle.larus_cli.specs.declared.report.ProofRefusal.TheVariants as proof
 use Rattle.larus_cli.specs.declared.report.Report.{Report}
-use Rattle.larus_cli.specs.declared.report.Report.TheVariants.{Accepted, Refused, ProblemFile, ProofFile}
+use Rattle.larus_cli.specs.declared.report.Report.TheVariants.{Accepted, Refused, Converted, ProblemFile, ProblemNotBuilt, ProofFile}
 use Rattle.larus_cli.specs.Lines.{line_of, usage_text, is_output, status_of}
 use Rattle.larus_cli.specs.Words.{command_of}
-
--- the greatest number of bytes of a file
-abbrev pub most_bytes : ℕ
-most_bytes = 4194304
 
 -- the files hold these bytes under a name, and they are not too many
 pub record HoldsBytes (held : Held) (name bytes : Text) : Type 0 where
   pub held_is : finite.get held name ≡ Some bytes
   pub short : length bytes ≤ most_bytes
 
--- the files hold a ground problem under a name
-pub record HoldsProblem (held : Held) (name : Text) (problem : List GroundFormula) : Type 0 where
-  pub bytes : Text
-  pub are_held : HoldsBytes held name bytes
-  pub spelled : IsGroundProblem bytes problem
+-- the text has tokens, which are a text of these formulas
+abbrev pub ReadsBack : Text → List Fof → Type 0
+ReadsBack text formulas = (ts : List Token) × AreTokens text ts × AreItemsOf ts (map ItemFof formulas)
 
--- what a report says of the proof file, where the problem was read; a fault has its cause outside
+-- what a refusal says of the files of a problem: it decides the walk over them; a file that could not be fetched was asked for
+abbrev pub FlatReported : Held → Text → Text → FlatWhy → Type 0
+FlatReported held problem file flat.Memory = ⊥
+FlatReported held problem file flat.FileFault = IsAskedFor held problem file
+FlatReported held problem file why = IsFlatRefused held problem file why
+
+-- the files hold bytes under a name that are read as no proof, for this reason
+abbrev pub HoldsUnread : Held → Text → NotRead → Type 0
+HoldsUnread held name why = (bytes : Text) × HoldsBytes held name bytes × IsUnread IsGroundProof bytes why
+
+-- what a refusal says of the proof's file; a fault has its cause outside
+abbrev pub ProofFileReported : Held → Text → ProofRefusal → Type 0
+ProofFileReported held name (proof.Lexical refusal) = HoldsUnread held name (unread.Lexical refusal)
+ProofFileReported held name proof.FileFault = Unit {0}
+ProofFileReported held name proof.FileTooLong = IsLong held name most_bytes
+ProofFileReported held name proof.NotBuilt = HoldsUnread held name unread.NotBuilt
+
+-- what a report says of the proof's file, where the problem was read
 abbrev pub ProofReported : Held → List GroundFormula → Text → Report → Type 0
 ProofReported held problem name (Accepted size) = (bytes : Text) × HoldsBytes held name bytes × AcceptsWith problem bytes size
 ProofReported held problem name Refused = (bytes : Text) × HoldsBytes held name bytes × Refuses problem bytes
-ProofReported held problem name (ProofFile FileFault) = Unit {0}
-ProofReported held problem name (ProofFile FileTooLong) = IsLong held name most_bytes
-ProofReported held problem name (ProofFile NotBuilt) = (bytes : Text) × HoldsBytes held name bytes × ((steps : List CitedFact) → IsGroundProof bytes steps → ⊥)
-ProofReported held problem name (ProblemFile why) = ⊥
+ProofReported held problem name (ProofFile why) = ProofFileReported held name why
+ProofReported held problem name _ = ⊥
 
--- the report is not of the problem file
-abbrev pub IsOfProof : Report → Type 0
-IsOfProof (ProblemFile why) = ⊥
-IsOfProof report = Unit {0}
+-- the files hold a problem that is flat with these formulas, and the formulas are ground
+pub record HoldsGround (held : Held) (name : Text) (ground : List GroundFormula) : Type 0 where
+  pub formulas : List Fof
+  pub flat_are : IsFlat held name formulas
+  pub ground_are : IsGroundProblem formulas ground
 
--- what a report says of the two files: the problem is looked at first
-abbrev pub Reported : Held → Text → Text → Report → Type 0
-Reported held problem proof (ProblemFile FileFault) = Unit {0}
-Reported held problem proof (ProblemFile FileTooLong) = IsLong held problem most_bytes
-Reported held problem proof (ProblemFile NotBuilt) = (bytes : Text) × HoldsBytes held problem bytes × ((formulas : List GroundFormula) → IsGroundProblem bytes formulas → ⊥)
-Reported held problem proof report = (formulas : List GroundFormula) × HoldsProblem held problem formulas × ProofReported held formulas proof report
+-- what a report of a check says of the files: the problem is looked at first
+abbrev pub CheckReported : Held → Text → Text → Report → Type 0
+CheckReported held problem name (ProblemFile refusal) = FlatReported held problem refusal.file refusal.why
+CheckReported held problem name ProblemNotBuilt =
+    (formulas : List Fof) × IsFlat held problem formulas × ((ground : List GroundFormula) → IsGroundProblem formulas ground → ⊥)
+CheckReported held problem name (Converted text) = ⊥
+CheckReported held problem name report = (ground : List GroundFormula) × HoldsGround held problem ground × ProofReported held ground name report
+
+-- what a report of a conversion says: the canonical text of the flat problem, which reads back as its formulas
+abbrev pub ConvertReported : Held → Text → Report → Type 0
+ConvertReported held problem (Converted text) =
+    (formulas : List Fof) × IsFlat held problem formulas × (text ≡ problem_text formulas) × ReadsBack text formulas
+ConvertReported held problem (ProblemFile refusal) = FlatReported held problem refusal.file refusal.why
+ConvertReported held problem _ = ⊥
 
 -- what is known of the files at a moment, and of a sink
 pub record Outside : Type 0 where
@@ -72,22 +102,32 @@ abbrev pub FetchFailed : Outside → Outside → Text → Type 0
 FetchFailed before after name = Rose before.faults after.faults × IfSome after.blamed (λ blamed. blamed ≡ name)
 
 -- a report of a fault has its cause
-abbrev pub ProofCaused : Outside → Outside → Text → Report → Type 0
-ProofCaused before after proof (ProofFile FileFault) = FetchFailed before after proof
-ProofCaused before after proof report = Unit {0}
+abbrev pub FlatCaused : Outside → Outside → Text → FlatWhy → Type 0
+FlatCaused before after file flat.FileFault = FetchFailed before after file
+FlatCaused before after file why = Unit {0}
 
-abbrev pub Caused : Outside → Outside → Text → Text → Report → Type 0
-Caused before after problem proof (ProblemFile FileFault) = FetchFailed before after problem
-Caused before after problem proof report = ProofCaused before after proof report
+abbrev pub ProofCaused : Outside → Outside → Text → ProofRefusal → Type 0
+ProofCaused before after name proof.FileFault = FetchFailed before after name
+ProofCaused before after name why = Unit {0}
 
--- the words ask for a check, the report is right wherever the files tell what they hold, and this is its line
-pub record Says (words : List Text) (before after : Outside) (report : Report) (line : Text) : Type 0 where
-  pub problem : Text
-  pub proof : Text
-  pub words_are : words ≡ codes "check" ∷ problem ∷ proof ∷ []
-  pub told : IfSome before.held (λ held. Reported held problem proof report)
-  pub caused : Caused before after problem proof report
-  pub line_is : line ≡ line_of problem proof report
+abbrev pub Caused : Outside → Outside → Text → Report → Type 0
+Caused before after name (ProblemFile refusal) = FlatCaused before after refusal.file refusal.why
+Caused before after name (ProofFile why) = ProofCaused before after name why
+Caused before after name report = Unit {0}
+
+-- the words ask for this, the report is right wherever the files tell what they hold, and this is what it prints
+pub data Says (words : List Text) (before after : Outside) (report : Report) (line : Text) : Type 0 where
+  of_check : (problem name : Text) → words ≡ codes "check" ∷ problem ∷ name ∷ [] →
+      IfSome before.held (λ held. CheckReported held problem name report) → Caused before after name report →
+      line ≡ line_of problem name report → Says words before after report line
+  of_convert : (problem : Text) → words ≡ codes "convert" ∷ codes "problem" ∷ problem ∷ [] →
+      IfSome before.held (λ held. ConvertReported held problem report) → Caused before after [] report →
+      line ≡ line_of problem [] report → Says words before after report line
+
+-- a report of what the words ask for is printed so, to the output or to the errors, with this status
+abbrev pub Replies : List Text → Outside → Outside → Text → Bool → ℕ → Type 0
+Replies words before after line output status =
+    (report : Report) × Says words before after report line × (is_output report ≡ output) × (status_of report ≡ status)
 
 -- where the contents are told, they are the old ones and then the text, or a part of it from its beginning
 abbrev pub Appended : Stream → Stream → Text → Type 0
@@ -111,11 +151,11 @@ pub data Outcome (words : List Text) (before after : Outside) (out out_after err
   -- want of memory: nothing is written
   out_of_memory : command_of words ≢ None → status ≡ 71 → out_after ≡ out → errs_after ≡ errs → Outcome words before after out out_after errs errs_after status
 
--- a problem whose bytes are held follows in a structure: if its premises are true there, its conjecture is
-pub record ProblemFollows (s : Structure) (held : Held) (words : List Text) : Type 0 where
-  pub problem : Text
-  pub proof : Text
-  pub words_are : words ≡ codes "check" ∷ problem ∷ proof ∷ []
-  pub formulas : List GroundFormula
-  pub held_are : HoldsProblem held problem formulas
-  pub follows : Follows s (map fof_of formulas)
+-- the problem that the files hold follows in a structure: if its premises are true there, its conjecture is
+abbrev pub ProblemFollows : Structure → Held → Text → Type 0
+ProblemFollows s held problem = (formulas : List Fof) × IsFlat held problem formulas × Follows s formulas
+
+-- a text was appended that reads back as the formulas of the problem that the files hold
+abbrev pub ProblemPrinted : Held → Text → Stream → Stream → Type 0
+ProblemPrinted held problem old new =
+    (formulas : List Fof) × IsFlat held problem formulas × ((text : Text) × Appended old new text × ReadsBack text formulas)

@@ -1,4 +1,5 @@
-ghost use Rattle.std.specs.Prelude.{◌≡◌, ◌↔◌, IsNone, IfSome, Some};
+ghost use Rattle.std.specs.Prelude.{◌≡◌, if◌then◌else◌, Some, None, codes};
+ghost use Rattle.std.specs.Str.{bytes_eq};
 ghost use Rattle.larus_cli.specs.Words.{command_of};
 
 use logic_core::Bytes;
@@ -8,6 +9,8 @@ use logic_core::Bytes;
 pub enum Command {
     /// `check PROBLEM PROOF`: whether the proof is accepted as a proof of the problem.
     Check,
+    /// `convert problem PROBLEM`: the problem with the files that it includes, in its canonical text.
+    ConvertProblem,
 }
 
 /// The command that the words after the program's name are, and `None` exactly where they are no command. Fixed
@@ -16,13 +19,26 @@ pub fn read_words(words: &[Bytes]) -> Option<Command>
     ensures { result ≡ command_of words.now }
 {
     match words {
-        [first, _, _] => {
+        [first, second, _] => {
             if first.as_slice() == b"check".as_slice() {
                 Some(Command::Check)
+            } else if first.as_slice() == b"convert".as_slice() {
+                conversion(second.as_slice())
             } else {
                 None
             }
         }
         _ => None,
+    }
+}
+
+/// The command that converts what the word names.
+fn conversion(word: &[u8]) -> Option<Command>
+    ensures { result ≡ (if bytes_eq word.now (codes "problem") then Some Command.ConvertProblem else None) }
+{
+    if word == b"problem".as_slice() {
+        Some(Command::ConvertProblem)
+    } else {
+        None
     }
 }

@@ -1,13 +1,17 @@
-ghost use Rattle.std.specs.Prelude.{◌≡◌, ◌≤◌, length, IfOk, IfSome, IsErrOf};
+ghost use Rattle.std.specs.Prelude.{◌≡◌, ◌≢◌, ◌≤◌, [], length, IfOk, IfSome, IsErrOf};
 ghost use Rattle.io_core.specs.Causes.{IsLong};
 ghost use Rattle.proof_checker.specs.Ground.{goals_of};
-ghost use Rattle.larus_cli.specs.Outcome.{HoldsBytes, Reported, ProofReported, IsOfProof, Caused, ProofCaused, FetchFailed, outside};
+ghost use Rattle.larus_cli.specs.Outcome.{HoldsBytes, CheckReported, ConvertReported, ProofReported, Caused, FetchFailed, outside};
+ghost use Rattle.include_flat.specs.declared.refusal.FlatWhy.TheVariants as whys;
+ghost use Rattle.larus_cli.specs.declared.report.Report.TheVariants.{ProblemFile};
 
-use crate::report::{FileRefusal, Report};
+use crate::report::{ProofRefusal, Report};
+use include_flat::{FlatRefusal, FlatWhy, flatten};
 use io_core::{FetchFault, Files};
 use logic_core::{Bytes, Memory};
-use proof_checker::{FirstRefusal, GroundFormula, NotRead, check_first, read_ground_problem};
+use proof_checker::{FirstRefusal, GroundFormula, NotGround, check_first, ground_formulas};
 use std::alloc::Global;
+use tptp_printer::print_problem;
 
 /// The greatest number of bytes of a file.
 const MOST_BYTES: u32 = 4194304;
@@ -30,53 +34,80 @@ fn fetch_whole<F: Files>(alloc: Global, files: &mut F, name: &[u8]) -> Result<By
     }
 }
 
+/// The report of a refusal of the problem's files; `Memory` where it is want of memory.
+fn flat_report(refusal: FlatRefusal) -> Result<Report, Memory>
+    ensures report { IfOk result (λ report. report ≡ ProblemFile refusal) }
+    ensures some { IfOk result (λ report. refusal.why ≢ whys.Memory) }
+{
+    match refusal.why {
+        FlatWhy::Memory => Err(Memory),
+        _ => Ok(Report::ProblemFile(refusal)),
+    }
+}
+
 /// What there is to say of a problem and a proof, by the names of their files. The problem is fetched and read
 /// first, and the first refusal ends the check. `Memory` is want of memory.
-pub(crate) fn decide<F: Files>(
+pub(crate) fn decide_check<F: Files>(
     alloc: Global,
     files: &mut F,
     problem: &[u8],
     proof: &[u8],
 ) -> Result<Report, Memory>
-    ensures told { IfOk result (λ report. IfSome (F.held files.old) (λ held. Reported held problem.now proof.now report)) }
-    ensures caused { IfOk result (λ report. Caused (outside (F.held files.old) (F.faults files.old) (F.blamed files.old)) (outside (F.held files.new) (F.faults files.new) (F.blamed files.new)) problem.now proof.now report) }
+    ensures told { IfOk result (λ report. IfSome (F.held files.old) (λ held. CheckReported held problem.now proof.now report)) }
+    ensures caused { IfOk result (λ report. Caused (outside (F.held files.old) (F.faults files.old) (F.blamed files.old)) (outside (F.held files.new) (F.faults files.new) (F.blamed files.new)) proof.now report) }
 {
-    let bytes = match fetch_whole(alloc, files, problem) {
-        Ok(bytes) => bytes,
-        Err(FetchFault::Failed) => return Ok(Report::ProblemFile(FileRefusal::FileFault)),
-        Err(FetchFault::TooLong) => return Ok(Report::ProblemFile(FileRefusal::FileTooLong)),
-        Err(FetchFault::Memory) => return Err(Memory),
-    };
-    let formulas = match read_ground_problem(alloc, bytes.as_slice()) {
+    let formulas = match flatten(alloc, files, problem) {
         Ok(formulas) => formulas,
-        Err(NotRead::NotBuilt) => return Ok(Report::ProblemFile(FileRefusal::NotBuilt)),
-        Err(NotRead::Memory) => return Err(Memory),
+        Err(refusal) => return flat_report(refusal),
     };
-    decide_proof(alloc, files, formulas.as_slice(), proof)
+    let ground = match ground_formulas(alloc, &formulas) {
+        Ok(ground) => ground,
+        Err(NotGround::NotBuilt) => return Ok(Report::ProblemNotBuilt),
+        Err(NotGround::Memory) => return Err(Memory),
+    };
+    decide_proof(alloc, files, ground.as_slice(), proof)
 }
 
 /// What there is to say of a proof of a problem that was read.
 fn decide_proof<F: Files>(
     alloc: Global,
     files: &mut F,
-    formulas: &[GroundFormula],
+    ground: &[GroundFormula],
     proof: &[u8],
 ) -> Result<Report, Memory>
-    requires { length (goals_of formulas.now) ≡ 1 }
-    ensures told { IfOk result (λ report. IfSome (F.held files.old) (λ held. ProofReported held formulas.now proof.now report)) }
-    ensures proof { IfOk result IsOfProof }
-    ensures caused { IfOk result (λ report. ProofCaused (outside (F.held files.old) (F.faults files.old) (F.blamed files.old)) (outside (F.held files.new) (F.faults files.new) (F.blamed files.new)) proof.now report) }
+    requires { length (goals_of ground.now) ≡ 1 }
+    ensures told { IfOk result (λ report. IfSome (F.held files.old) (λ held. ProofReported held ground.now proof.now report)) }
+    ensures caused { IfOk result (λ report. Caused (outside (F.held files.old) (F.faults files.old) (F.blamed files.old)) (outside (F.held files.new) (F.faults files.new) (F.blamed files.new)) proof.now report) }
 {
     let bytes = match fetch_whole(alloc, files, proof) {
         Ok(bytes) => bytes,
-        Err(FetchFault::Failed) => return Ok(Report::ProofFile(FileRefusal::FileFault)),
-        Err(FetchFault::TooLong) => return Ok(Report::ProofFile(FileRefusal::FileTooLong)),
+        Err(FetchFault::Failed) => return Ok(Report::ProofFile(ProofRefusal::FileFault)),
+        Err(FetchFault::TooLong) => return Ok(Report::ProofFile(ProofRefusal::FileTooLong)),
         Err(FetchFault::Memory) => return Err(Memory),
     };
-    match check_first(alloc, formulas, bytes.as_slice()) {
+    match check_first(alloc, ground, bytes.as_slice()) {
         Ok(size) => Ok(Report::Accepted(size)),
         Err(FirstRefusal::Refused) => Ok(Report::Refused),
-        Err(FirstRefusal::NotBuilt) => Ok(Report::ProofFile(FileRefusal::NotBuilt)),
+        Err(FirstRefusal::Lexical(refusal)) => Ok(Report::ProofFile(ProofRefusal::Lexical(
+            refusal,
+        ))),
+        Err(FirstRefusal::NotBuilt) => Ok(Report::ProofFile(ProofRefusal::NotBuilt)),
         Err(FirstRefusal::Memory) => Err(Memory),
+    }
+}
+
+/// What there is to say of a problem that is to be printed, by the name of its file: its canonical text, or the refusal of a
+/// file. `Memory` is want of memory.
+pub(crate) fn decide_convert<F: Files>(
+    alloc: Global,
+    files: &mut F,
+    problem: &[u8],
+) -> Result<Report, Memory>
+    ensures told { IfOk result (λ report. IfSome (F.held files.old) (λ held. ConvertReported held problem.now report)) }
+    ensures caused { IfOk result (λ report. Caused (outside (F.held files.old) (F.faults files.old) (F.blamed files.old)) (outside (F.held files.new) (F.faults files.new) (F.blamed files.new)) [] report) }
+{
+    match flatten(alloc, files, problem) {
+        Ok(formulas) => Ok(Report::Converted(print_problem(alloc, &formulas)?)),
+        Err(refusal) => flat_report(refusal),
     }
 }

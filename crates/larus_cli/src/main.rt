@@ -14,7 +14,7 @@ mod run;
 mod tests;
 
 pub use command::{Command, read_words};
-pub use report::{FileRefusal, Report, message};
+pub use report::{ProofRefusal, Report, message};
 pub use run::run;
 
 /// The status for want of memory.

@@ -1,13 +1,14 @@
 ghost use Rattle.std.specs.Prelude.{◌≡◌, ◌⊎◌, [], ◌∷◌, ℕ, List, Some, None, IfSome, IfOk, codes};
 ghost use Rattle.logic_core.specs.Truth.{structure};
 ghost use Rattle.logic_core.specs.Lists.{IsAmong};
+ghost use Rattle.logic_core.specs.Names.{Text};
 ghost use Rattle.io_core.specs.Causes.{Rose};
 ghost use Rattle.larus_cli.specs.Words.{command_of};
-ghost use Rattle.larus_cli.specs.Lines.{line_of};
-ghost use Rattle.larus_cli.specs.Outcome.{Outcome, Put, Reported, Caused, ProblemFollows, outside, stream};
+ghost use Rattle.larus_cli.specs.Lines.{line_of, is_output, status_of};
+ghost use Rattle.larus_cli.specs.Outcome.{Outcome, Put, Replies, ProblemFollows, ProblemPrinted, outside, stream};
 
 use crate::command::{Command, read_words};
-use crate::decide::decide;
+use crate::decide::{decide_check, decide_convert};
 use crate::report::{Report, message};
 use io_core::{Files, Sink};
 use logic_core::{Bytes, Memory, World};
@@ -15,7 +16,7 @@ use proof_checker::accepted_follows;
 use std::alloc::Global;
 
 /// What the program prints where its words are no command.
-const USAGE: &[u8] = b"44 Usage\ncheck PROBLEM PROOF\n";
+const USAGE: &[u8] = b"44 Usage\ncheck PROBLEM PROOF\nconvert problem PROBLEM\n";
 
 /// The status for want of memory.
 const OUT_OF_MEMORY: u8 = 71;
@@ -33,30 +34,85 @@ fn put_answer<S: Sink>(sink: &mut S, text: &[u8], status: u8) -> u8
     }
 }
 
-/// A report on a problem and a proof, with its line.
-fn reported<F: Files>(
-    alloc: Global,
-    files: &mut F,
-    problem: &[u8],
-    proof: &[u8],
-) -> Result<(Report, Bytes), Memory>
-    ensures told { IfOk result (λ answer. IfSome (F.held files.old) (λ held. Reported held problem.now proof.now answer.0)) }
-    ensures caused { IfOk result (λ answer. Caused (outside (F.held files.old) (F.faults files.old) (F.blamed files.old)) (outside (F.held files.new) (F.faults files.new) (F.blamed files.new)) problem.now proof.now answer.0) }
-    ensures line { IfOk result (λ answer. answer.1 ≡ line_of problem.now proof.now answer.0) }
+/// What is to be printed, where to, and the status.
+#[derive(Debug, Drop)]
+struct Reply {
+    line: Bytes,
+    is_output: bool,
+    status: u8,
+}
+
+/// The reply of a report on a problem and a proof with these names.
+fn reply_of(alloc: Global, problem: &[u8], proof: &[u8], report: Report) -> Result<Reply, Memory>
+    ensures { IfOk result (λ reply. (reply.line ≡ line_of problem.now proof.now report) × (reply.is_output ≡ is_output report) × (reply.status ≡ status_of report)) }
 {
-    let report = decide(alloc, files, problem, proof)?;
+    let is_output = report.is_output();
+    let status = report.status();
     let line = message(alloc, problem, proof, report)?;
-    Ok((report, line))
+    Ok(Reply {
+        line,
+        is_output,
+        status,
+    })
 }
 
 /// The names of the problem's and the proof's file in the words of a check.
-fn names(words: &[Bytes]) -> (&[u8], &[u8])
+fn check_names(words: &[Bytes]) -> (&[u8], &[u8])
     requires { command_of words.now ≡ Some Command.Check }
     ensures { words.now ≡ codes "check" ∷ result.0.now ∷ result.1.now ∷ [] }
 {
     match words {
         [_, problem, proof] => (problem.as_slice(), proof.as_slice()),
         _ => unreachable!(),
+    }
+}
+
+/// The name of the problem's file in the words of its conversion.
+fn convert_name(words: &[Bytes]) -> &[u8]
+    requires { command_of words.now ≡ Some Command.ConvertProblem }
+    ensures { words.now ≡ codes "convert" ∷ codes "problem" ∷ result.now ∷ [] }
+{
+    match words {
+        [_, _, problem] => problem.as_slice(),
+        _ => unreachable!(),
+    }
+}
+
+/// The reply to the words of a check.
+fn check<F: Files>(alloc: Global, words: &[Bytes], files: &mut F) -> Result<Reply, Memory>
+    requires { command_of words.now ≡ Some Command.Check }
+    ensures { IfOk result (λ reply. Replies words.now (outside (F.held files.old) (F.faults files.old) (F.blamed files.old)) (outside (F.held files.new) (F.faults files.new) (F.blamed files.new)) reply.line reply.is_output reply.status) }
+{
+    let (problem, proof) = check_names(words);
+    let report = decide_check(alloc, files, problem, proof)?;
+    let reply = reply_of(alloc, problem, proof, report)?;
+    Ok(reply)
+}
+
+/// The reply to the words of a problem's conversion.
+fn convert<F: Files>(alloc: Global, words: &[Bytes], files: &mut F) -> Result<Reply, Memory>
+    requires { command_of words.now ≡ Some Command.ConvertProblem }
+    ensures { IfOk result (λ reply. Replies words.now (outside (F.held files.old) (F.faults files.old) (F.blamed files.old)) (outside (F.held files.new) (F.faults files.new) (F.blamed files.new)) reply.line reply.is_output reply.status) }
+{
+    let problem = convert_name(words);
+    let report = decide_convert(alloc, files, problem)?;
+    let reply = reply_of(alloc, problem, b"", report)?;
+    Ok(reply)
+}
+
+/// The reply to words that are a command.
+fn reply_to<F: Files>(
+    alloc: Global,
+    words: &[Bytes],
+    command: Command,
+    files: &mut F,
+) -> Result<Reply, Memory>
+    requires { command_of words.now ≡ Some command }
+    ensures { IfOk result (λ reply. Replies words.now (outside (F.held files.old) (F.faults files.old) (F.blamed files.old)) (outside (F.held files.new) (F.faults files.new) (F.blamed files.new)) reply.line reply.is_output reply.status) }
+{
+    match command {
+        Command::Check => check(alloc, words, files),
+        Command::ConvertProblem => convert(alloc, words, files),
     }
 }
 
@@ -73,16 +129,15 @@ fn answer<F: Files, O: Sink, E: Sink>(
         (stream (O.contents out.old) (O.faults out.old)) (stream (O.contents out.new) (O.faults out.new))
         (stream (E.contents errs.old) (E.faults errs.old)) (stream (E.contents errs.new) (E.faults errs.new)) result }
 {
-    let Some(Command::Check) = read_words(words) else {
+    let Some(command) = read_words(words) else {
         return put_answer(errs, USAGE, 64);
     };
-    let (problem, proof) = names(words);
-    match reported(alloc, files, problem, proof) {
-        Ok((report, line)) => {
-            if report.is_output() {
-                put_answer(out, line.as_slice(), report.status())
+    match reply_to(alloc, words, command, files) {
+        Ok(reply) => {
+            if reply.is_output {
+                put_answer(out, reply.line.as_slice(), reply.status)
             } else {
-                put_answer(errs, line.as_slice(), report.status())
+                put_answer(errs, reply.line.as_slice(), reply.status)
             }
         }
         Err(_) => OUT_OF_MEMORY,
@@ -90,9 +145,9 @@ fn answer<F: Files, O: Sink, E: Sink>(
 }
 
 /// The program: it does what the words, those after the program's name, ask for, with these files and these two
-/// sinks, and answers the status with which it ends. 0: the proof is accepted. 1: it is not. 2: the problem's file
-/// is refused. 3: the proof's file is refused. 64: the words are no command. 66: a file could not be fetched. 71:
-/// want of memory. 74: the sink of the answer failed. What is said of structures holds in each structure of every
+/// sinks, and answers the status with which it ends. 0: the proof is accepted, or the problem printed. 1: the proof is not
+/// accepted. 2: a file of the problem is refused. 3: the proof's file is refused. 64: the words are no command. 66: a
+/// file could not be fetched. 71: want of memory. 74: the sink of the answer failed. What is said of structures holds in each structure of every
 /// family `W`, which no code can look at.
 pub fn run<W: World, F: Files, O: Sink, E: Sink>(
     alloc: Global,
@@ -102,7 +157,12 @@ pub fn run<W: World, F: Files, O: Sink, E: Sink>(
     errs: &mut E,
 ) -> u8
     // An accepted proof: the conjecture is true in each structure in which the problem's axioms are.
-    ensures sound { (k : List ℕ) → result ≡ 0 → IfSome (F.held files.old) (λ held. ProblemFollows (structure (W.element k) (W.holds k) (W.place k)) held words.now) }
+    ensures sound { (k : List ℕ) (problem proof : Text) → words.now ≡ codes "check" ∷ problem ∷ proof ∷ [] → result ≡ 0
+        → IfSome (F.held files.old) (λ held. ProblemFollows (structure (W.element k) (W.holds k) (W.place k)) held problem) }
+    // A converted problem: what is printed reads back as the formulas of the problem, so it is true in the same structures.
+    ensures printed { (problem : Text) → words.now ≡ codes "convert" ∷ codes "problem" ∷ problem ∷ [] → result ≡ 0
+        → IfSome (F.held files.old) (λ held. ProblemPrinted held problem
+        (stream (O.contents out.old) (O.faults out.old)) (stream (O.contents out.new) (O.faults out.new))) }
     ensures outcome { Outcome words.now
         (outside (F.held files.old) (F.faults files.old) (F.blamed files.old)) (outside (F.held files.new) (F.faults files.new) (F.blamed files.new))
         (stream (O.contents out.old) (O.faults out.old)) (stream (O.contents out.new) (O.faults out.new))

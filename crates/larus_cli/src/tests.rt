@@ -1,28 +1,125 @@
-use crate::{Command, FileRefusal, Report, message, read_words, run};
+use crate::{Command, ProofRefusal, Report, message, read_words, run};
 use io_core::{MemoryFiles, MemorySink};
 use logic_core::{AnyWorld, Bytes, List};
 use std::alloc::Global;
 use std::process::Abort;
 use std::test::Fail;
 
+const CHECK: &[&[u8]] = &[b"check", b"x.p", b"x.v"];
+
+const CONVERT: &[&[u8]] = &[b"convert", b"problem", b"x.p"];
+
 const PROBLEM: &[u8] = b"fof(a1,axiom,p(c)). fof(g,conjecture,p(c)).";
+
+const TWO_AXIOMS: &[u8] = b"fof(a1,axiom,p(c)). fof(a2,axiom,q(c)). fof(g,conjecture,q(c)).";
 
 const PROOF: &[u8] = b"vernacular 1. take []. mp a1 [] new [] gives p(c). as 1 [].";
 
-/// The words of a check of `x.p` and `x.v`.
-fn check_words(alloc: Global) -> Result<List<Bytes>, Fail> {
+const SECOND_PROOF: &[u8] = b"vernacular 1. take []. mp a2 [] new [] gives q(c). as 1 [].";
+
+// Files by name.
+type Entries = &'static [(&'static [u8], &'static [u8])];
+
+// A proof of a problem in three files.
+const FOUR_FILES: Entries = &[
+    (
+        b"x.p",
+        b"include('a'). include('b'). fof(g,conjecture,p(c)).",
+    ),
+    (b"a", b"fof(a1,axiom,p(c))."),
+    (b"b", b""),
+    (b"x.v", PROOF),
+];
+
+// Words and files, with the status and what is put to the output.
+const ANSWERS: &[(&[&[u8]], Entries, u8, &[u8])] = &[
+    // the cited axiom is the conjecture
+    (
+        CHECK,
+        &[(b"x.p", PROBLEM), (b"x.v", PROOF)],
+        0,
+        b"accepted 2\n",
+    ),
+    // so is the second one
+    (
+        CHECK,
+        &[(b"x.p", TWO_AXIOMS), (b"x.v", SECOND_PROOF)],
+        0,
+        b"accepted 2\n",
+    ),
+    // the first one is not
+    (
+        CHECK,
+        &[(b"x.p", TWO_AXIOMS), (b"x.v", PROOF)],
+        1,
+        b"refused\n",
+    ),
+    // the axiom is in an included file
+    (CHECK, FOUR_FILES, 0, b"accepted 2\n"),
+    // a canonical text stays as it is
+    (
+        CONVERT,
+        &[(b"x.p", b"fof(a,axiom,! [X] : p(X) & q).")],
+        0,
+        b"fof(a,axiom,! [X] : p(X) & q).\n",
+    ),
+    // nothing is printed for no formulas
+    (CONVERT, &[(b"x.p", b"")], 0, b""),
+    // a selection takes the formulas that it names
+    (
+        CONVERT,
+        &[
+            (b"ax.p", b"fof(u,axiom,p(c)). fof(v,axiom,q(c))."),
+            (b"x.p", b"include('ax.p',[v,zzz]). fof(g,conjecture,q(c))."),
+        ],
+        0,
+        b"fof(v,axiom,q(c)).\nfof(g,conjecture,q(c)).\n",
+    ),
+];
+
+// Files of a problem that either command refuses, with the status and what is put to the errors.
+const REFUSED_PROBLEMS: &[(Entries, u8, &[u8])] = &[
+    (&[(b"x.p", b"fof(a,axiom,p;q).")], 2, b"x.p:13: 1 BadByte\n"),
+    (&[(b"x.p", b"fof('a")], 2, b"x.p:4: 2 OpenQuote\n"),
+    (&[(b"x.p", b"/* x")], 2, b"x.p:0: 3 OpenComment\n"),
+    (
+        &[(b"x.p", b"fof('',axiom,p).")],
+        2,
+        b"x.p:4: 4 EmptyQuote\n",
+    ),
+    (&[(b"x.p", b"fof(")], 2, b"x.p:4: 7 EndOfText\n"),
+    (
+        &[(b"x.p", b"fof(a,axiom,p(X)).")],
+        2,
+        b"x.p:14: 10 FreeVariable\n",
+    ),
+    (
+        &[(b"x.p", b"include('x.p').")],
+        2,
+        b"x.p: 14 IncludeDepth\n",
+    ),
+    (&[], 66, b"x.p: 11 FileFault\n"),
+];
+
+// Proofs that are not read, with what is put to the errors.
+const REFUSED_PROOFS: &[(&[u8], &[u8])] = &[
+    (b"vernacular 1. take []. /* x", b"x.v:23: 3 OpenComment\n"),
+    (b"", b"x.v: 45 NotBuilt\n"),
+];
+
+fn words_of(alloc: Global, texts: &[&[u8]]) -> Result<List<Bytes>, Fail> {
     let mut words = List::new(alloc);
-    words.push(Bytes::from_slice(alloc, b"check")?)?;
-    words.push(Bytes::from_slice(alloc, b"x.p")?)?;
-    words.push(Bytes::from_slice(alloc, b"x.v")?)?;
+    for text in texts {
+        words.push(Bytes::from_slice(alloc, text)?)?;
+    }
     Ok(words)
 }
 
-/// Files with this problem as `x.p` and this proof as `x.v`.
-fn two_files(alloc: Global, problem: &[u8], proof: &[u8]) -> Result<MemoryFiles, Fail> {
+fn files_of(alloc: Global, entries: &[(&[u8], &[u8])]) -> Result<MemoryFiles, Fail> {
     let mut files = MemoryFiles::new(alloc);
-    files.insert(b"x.p", problem)?;
-    files.insert(b"x.v", proof)?;
+    for (name, bytes) in entries {
+        files.insert(name, bytes)?;
+    }
     Ok(files)
 }
 
@@ -31,75 +128,75 @@ fn sink(alloc: Global) -> Result<MemorySink, Fail> {
     Ok(MemorySink::new(alloc, 1024)?)
 }
 
-/// Checks `x.v` against `x.p`, and tells the status with what the output and the errors hold.
+/// Runs the program, and looks at its status and at what the output and the errors hold.
 fn assert_ends(
     rt: &impl Abort,
     alloc: Global,
+    texts: &[&[u8]],
     mut files: MemoryFiles,
     want: (u8, &[u8], &[u8]),
 ) -> Result<(), Fail> {
-    let words = check_words(alloc)?;
+    let words = words_of(alloc, texts)?;
     let mut out = sink(alloc)?;
     let mut errs = sink(alloc)?;
     let status = run::<AnyWorld, _, _, _>(alloc, words.as_slice(), &mut files, &mut out, &mut errs);
-    assert_eq!(rt; status, want.0);
-    assert_eq!(rt; out.contents(), want.1);
     assert_eq!(rt; errs.contents(), want.2);
+    assert_eq!(rt; out.contents(), want.1);
+    assert_eq!(rt; status, want.0);
     Ok(())
 }
 
 #[test]
-fn a_cited_axiom_is_accepted_and_another_one_is_not(rt: HostRuntime) -> Result<(), Fail> {
-    assert_ends(
-        &rt,
-        rt.alloc(),
-        two_files(rt.alloc(), PROBLEM, PROOF)?,
-        (0, b"accepted 2\n", b""),
-    )?;
-    let two = b"fof(a1,axiom,p(c)). fof(a2,axiom,q(c)). fof(g,conjecture,q(c)).".as_slice();
-    let second = b"vernacular 1. take []. mp a2 [] new [] gives q(c). as 1 [].".as_slice();
-    assert_ends(
-        &rt,
-        rt.alloc(),
-        two_files(rt.alloc(), two, second)?,
-        (0, b"accepted 2\n", b""),
-    )?;
-    assert_ends(
-        &rt,
-        rt.alloc(),
-        two_files(rt.alloc(), two, PROOF)?,
-        (1, b"refused\n", b""),
-    )?;
-    assert_ends(
-        &rt,
-        rt.alloc(),
-        two_files(rt.alloc(), b"fof(", PROOF)?,
-        (2, b"", b"x.p: 45 NotBuilt\n"),
-    )?;
-    assert_ends(
-        &rt,
-        rt.alloc(),
-        two_files(rt.alloc(), PROBLEM, b"")?,
-        (3, b"", b"x.v: 45 NotBuilt\n"),
-    )
+fn an_answer_goes_to_the_output(rt: HostRuntime) -> Result<(), Fail> {
+    for (words, entries, status, text) in ANSWERS {
+        let files = files_of(rt.alloc(), entries)?;
+        assert_ends(&rt, rt.alloc(), words, files, (*status, text, b""))?;
+    }
+    Ok(())
+}
+
+#[test]
+fn a_refused_problem_goes_to_the_errors(rt: HostRuntime) -> Result<(), Fail> {
+    for words in [CHECK, CONVERT] {
+        for (entries, status, line) in REFUSED_PROBLEMS {
+            let files = files_of(rt.alloc(), entries)?;
+            assert_ends(&rt, rt.alloc(), words, files, (*status, b"", line))?;
+        }
+    }
+    Ok(())
+}
+
+#[test]
+fn a_proof_that_is_not_read_goes_to_the_errors(rt: HostRuntime) -> Result<(), Fail> {
+    for (proof, line) in REFUSED_PROOFS {
+        let files = files_of(rt.alloc(), &[(b"x.p", PROBLEM), (b"x.v", proof)])?;
+        assert_ends(&rt, rt.alloc(), CHECK, files, (3, b"", line))?;
+    }
+    Ok(())
 }
 
 #[test]
 fn a_failing_fetch_is_told_by_its_file(rt: HostRuntime) -> Result<(), Fail> {
-    let mut files = two_files(rt.alloc(), PROBLEM, PROOF)?;
-    files.fail_at(0)?;
-    assert_ends(&rt, rt.alloc(), files, (66, b"", b"x.p: 11 FileFault\n"))?;
-    let mut files = two_files(rt.alloc(), PROBLEM, PROOF)?;
-    files.fail_at(1)?;
-    assert_ends(&rt, rt.alloc(), files, (66, b"", b"x.v: 11 FileFault\n"))
+    let rows: [(u32, &[u8]); 4] = [
+        (0, b"x.p: 11 FileFault\n"),
+        (1, b"a: 11 FileFault\n"),
+        (2, b"b: 11 FileFault\n"),
+        (3, b"x.v: 11 FileFault\n"),
+    ];
+    for (fetch, line) in rows {
+        let mut files = files_of(rt.alloc(), FOUR_FILES)?;
+        files.fail_at(fetch)?;
+        assert_ends(&rt, rt.alloc(), CHECK, files, (66, b"", line))?;
+    }
+    Ok(())
 }
 
 #[test]
 fn a_failing_output_holds_a_part_of_the_answer(rt: HostRuntime) -> Result<(), Fail> {
-    let words = check_words(rt.alloc())?;
+    let words = words_of(rt.alloc(), CHECK)?;
     let answer = b"accepted 2\n";
     for kept in 0u32..11 {
-        let mut files = two_files(rt.alloc(), PROBLEM, PROOF)?;
+        let mut files = files_of(rt.alloc(), &[(b"x.p", PROBLEM), (b"x.v", PROOF)])?;
         let mut out = sink(rt.alloc())?;
         out.fail_at(0, kept)?;
         let mut errs = sink(rt.alloc())?;
@@ -118,9 +215,24 @@ fn a_failing_output_holds_a_part_of_the_answer(rt: HostRuntime) -> Result<(), Fa
 }
 
 #[test]
+fn other_words_get_the_usage_text(rt: HostRuntime) -> Result<(), Fail> {
+    assert_ends(
+        &rt,
+        rt.alloc(),
+        &[b"convert", b"formula", b"x.p"],
+        files_of(rt.alloc(), &[])?,
+        (
+            64,
+            b"",
+            b"44 Usage\ncheck PROBLEM PROOF\nconvert problem PROBLEM\n",
+        ),
+    )
+}
+
+#[test]
 fn a_failing_usage_text_gives_74(rt: HostRuntime) -> Result<(), Fail> {
     let words: List<Bytes> = List::new(rt.alloc());
-    let mut files = two_files(rt.alloc(), PROBLEM, PROOF)?;
+    let mut files = MemoryFiles::new(rt.alloc());
     let mut out = sink(rt.alloc())?;
     let mut errs = sink(rt.alloc())?;
     errs.fail_at(0, 2)?;
@@ -139,16 +251,19 @@ fn a_failing_usage_text_gives_74(rt: HostRuntime) -> Result<(), Fail> {
 
 #[test]
 fn words_and_lines(rt: HostRuntime) -> Result<(), Fail> {
-    assert_eq!(rt;
-        read_words(check_words(rt.alloc())?.as_slice()),
-        Some(Command::Check)
-    );
-    let line = message(
-        rt.alloc(),
-        b"x.p",
-        b"x.v",
-        Report::ProofFile(FileRefusal::FileTooLong),
-    )?;
+    let rows: [(&[&[u8]], Option<Command>); 3] = [
+        (CHECK, Some(Command::Check)),
+        (CONVERT, Some(Command::ConvertProblem)),
+        (&[b"convert", b"x.p"], None),
+    ];
+    for (texts, command) in rows {
+        assert_eq!(rt;
+            read_words(words_of(rt.alloc(), texts)?.as_slice()),
+            command
+        );
+    }
+    let refusal = Report::ProofFile(ProofRefusal::FileTooLong);
+    let line = message(rt.alloc(), b"x.p", b"x.v", refusal)?;
     assert_eq!(rt; line.as_slice(), b"x.v: 12 FileTooLong\n".as_slice());
     Ok(())
 }

@@ -1,10 +1,9 @@
 -- Lists that a loop reads item by item.
-use Rattle.std.specs.Prelude.{◌≡◌, ◌≢◌, ◌<◌, ◌-◌, if◌then◌else◌, ℕ, zero, suc, Bool, true, false, List, [], ◌∷◌, ◌++◌, length, Some, None, refl, codes}
+use Rattle.std.specs.Prelude.{◌≡◌, if◌then◌else◌, Bool, true, false, List, [], ◌∷◌, ◌++◌, Some, None, refl, codes}
 use Rattle.std.specs.Str.{bytes_eq}
-use Rattle.std.proofs.Common.{ap, append_assoc, append-nil, ◌∙◌, arith}
+use Rattle.std.proofs.Common.{ap, append_assoc, ◌∙◌}
 use Rattle.logic_core.specs.Names.{Text, is_lower, is_word_from}
-use Rattle.proof_checker.specs.declared.ground.GroundFormula.{GroundFormula}
-use Rattle.proof_checker.specs.Reading.{Read, with_front, args_from, word_from, after, formula_from, formulas_from}
+use Rattle.proof_checker.specs.Reading.{Read, with_front, args_from, word_from, after}
 
 pub with_front-nil : {X : Type 0} (read : Read (List X)) → with_front [] read ≡ read
 with_front-nil None = refl
@@ -71,38 +70,4 @@ args-no_word [] w = refl
 args-no_word (t ∷ []) w = refl
 args-no_word (t ∷ m ∷ ms) w = rw (passed_over (is_word_from is_lower t) (t, m ∷ ms) w)
 
--- a formula that is left is read in front of the others
-pub formulas-read : (left : ℕ) (rest tail : List Text) (f : GroundFormula) → 0 < left → rest ≢ [] → formula_from rest ≡ Some (f, tail)
-    → formulas_from left rest ≡ with_front (f ∷ []) (formulas_from (left - 1) tail)
-unfolding formulas_from
-formulas-read zero rest tail f some there read = absurd (omega arith)
-formulas-read (suc left) [] tail f some there read = absurd (there refl)
-formulas-read (suc left) (t ∷ ts) tail f some there read = let less : (suc left) - 1 ≡ left = omega arith in rw (read, less)
-
-pub formulas-none : (left : ℕ) (rest : List Text) → rest ≢ [] → formula_from rest ≡ None → formulas_from left rest ≡ None
-unfolding formulas_from
-formulas-none zero [] there read = absurd (there refl)
-formulas-none zero (t ∷ ts) there read = refl
-formulas-none (suc left) [] there read = absurd (there refl)
-formulas-none (suc left) (t ∷ ts) there read = rw read
-
-pub formulas-end : (left : ℕ) (rest : List Text) → rest ≡ [] → formulas_from left rest ≡ Some ([], [])
-unfolding formulas_from
-formulas-end zero rest e = rw e
-formulas-end (suc left) rest e = rw e
-
-pub formulas-full : (rest : List Text) → rest ≢ [] → formulas_from 0 rest ≡ None
-unfolding formulas_from
-formulas-full [] there = absurd (there refl)
-formulas-full (t ∷ ts) there = refl
-
-nothing : (rest : List Text) → length rest ≡ 0 → rest ≡ []
-nothing [] e = refl
-nothing (t ∷ ts) e = absurd (omega arith)
-
--- where nothing is left, the formulas so far are all
-pub formulas-all : (most left : ℕ) (texts rest : List Text) (fs : List GroundFormula) → formulas_from most texts ≡ with_front fs (formulas_from left rest)
-    → length rest ≡ 0 → formulas_from most texts ≡ Some (fs, [])
-formulas-all most left texts rest fs so_far e = so_far ∙ ap (with_front fs) (formulas-end left rest (nothing rest e)) ∙ ap (λ gs. Some (gs, [])) (append-nil fs)
-
-pub ruleset fronts = (args-more, args-last, args-none, args-no_word, with_front-nil, with_front-append, formulas-read, formulas-none, formulas-end, formulas-full, formulas-all)
+pub ruleset fronts = (args-more, args-last, args-none, args-no_word, with_front-nil, with_front-append)

@@ -1,3 +1,5 @@
+pub mod Making
+pub mod Fit
 pub mod Fronts
 pub mod Steps
 pub mod Complete
@@ -8,3 +10,4 @@ pub mod Acceptance
 pub mod Truth
 pub mod Texts
 pub mod Read
+pub mod Told

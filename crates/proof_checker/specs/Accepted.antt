@@ -10,7 +10,11 @@ use Rattle.vernacular_tree.specs.Rules.{Proves}
 use Rattle.vernacular_tree.specs.Sizes.{size}
 use Rattle.proof_checker.specs.declared.ground.GroundFormula.{GroundFormula}
 use Rattle.proof_checker.specs.declared.ground.CitedFact.{CitedFact}
+use Rattle.proof_checker.specs.declared.words.NotRead.TheVariants as fault
+use Rattle.proof_checker.specs.declared.check.FirstRefusal.{FirstRefusal}
+use Rattle.proof_checker.specs.declared.check.FirstRefusal.TheVariants.{Lexical, NotBuilt, Refused, Memory}
 use Rattle.proof_checker.specs.Ground.{axioms_of, IsGroundProof}
+use Rattle.proof_checker.specs.Unread.{IsUnread}
 use Rattle.proof_checker.specs.Tasks.{task_of}
 
 -- an application of the first axiom with the cited name, which has the shown atom
@@ -49,3 +53,10 @@ pub record Refuses (problem : List GroundFormula) (bytes : Text) : Type 0 where
   pub steps : List CitedFact
   pub spelled : IsGroundProof bytes steps
   pub none : (body : Body) → IsAccepted problem steps body → ⊥
+
+-- why the bytes are not accepted as a proof of the problem; want of memory may come anywhere
+abbrev pub IsRefusedAs : List GroundFormula → Text → FirstRefusal → Type 0
+IsRefusedAs problem bytes (Lexical refusal) = IsUnread IsGroundProof bytes (fault.Lexical refusal)
+IsRefusedAs problem bytes NotBuilt = IsUnread IsGroundProof bytes fault.NotBuilt
+IsRefusedAs problem bytes Refused = Refuses problem bytes
+IsRefusedAs problem bytes Memory = Unit {0}

@@ -1,21 +1,26 @@
--- Ground problems and ground proofs: what their texts are, by the values that they spell. A problem's formulas are
--- atoms without variables, after the TPTP syntax; a proof cites axioms and ends with the goal.
+-- Ground problems and ground proofs. A problem is ground where its formulas are atoms without variables, after the
+-- TPTP syntax; a proof is the text of values that it spells, which cite axioms, and it ends with the goal.
 use Rattle.std.specs.Prelude.{◌≤◌, ◌≡◌, Bool, true, false, if◌then◌else◌, List, [], ◌∷◌, ◌++◌, length, map, codes}
 use Rattle.std.specs.List.{AllByRecursion}
 use Rattle.logic_core.specs.Names.{Text, is_lower, is_word_from}
 use Rattle.logic_core.specs.declared.formula.Term.TheVariants.{Constant}
-use Rattle.logic_core.specs.declared.formula.Formula.{Pred}
+use Rattle.logic_core.specs.declared.formula.Formula.{Formula, Pred}
 use Rattle.logic_core.specs.declared.problem.Role.{Role}
-use Rattle.logic_core.specs.declared.problem.Role.TheVariants.{Axiom, Conjecture}
+use Rattle.logic_core.specs.declared.problem.Role.TheVariants.{Conjecture}
 use Rattle.logic_core.specs.declared.problem.Fof.{Fof}
 use Rattle.tptp_lexer.specs.Tokens.{Token, AreTokens, texts_of}
 use Rattle.proof_checker.specs.declared.ground.GroundAtom.{GroundAtom}
 use Rattle.proof_checker.specs.declared.ground.GroundFormula.{GroundFormula}
 use Rattle.proof_checker.specs.declared.ground.CitedFact.{CitedFact}
+use Rattle.proof_checker.specs.declared.problem.NotGround.{NotGround}
+use Rattle.proof_checker.specs.declared.problem.NotGround.TheVariants.{NotBuilt, Memory}
 
--- a ground formula as a formula of a problem
+-- an atom as a formula, and a ground formula as a formula of a problem
+abbrev pub formula_of : GroundAtom → Formula
+formula_of a = Pred a.predicate (map Constant a.args)
+
 abbrev pub fof_of : GroundFormula → Fof
-fof_of g = record { name = g.name; role = g.role; formula = Pred g.atom.predicate (map Constant g.atom.args) }
+fof_of g = record { name = g.name; role = g.role; formula = formula_of g.atom }
 
 -- any role but that of the conjecture
 abbrev pub is_premise : Role → Bool
@@ -31,10 +36,16 @@ abbrev pub goals_of : List GroundFormula → List GroundAtom
 goals_of [] = []
 goals_of (g ∷ gs) = if is_premise g.role then goals_of gs else g.atom ∷ goals_of gs
 
--- the word that spells a role
-abbrev pub role_text : Role → Text
-role_text Conjecture = codes "conjecture"
-role_text _ = codes "axiom"
+-- the formulas of the problem are these: at most 32 arguments each, and one of them is the conjecture
+pub record IsGroundProblem (problem : List Fof) (formulas : List GroundFormula) : Type 0 where
+  pub are : problem ≡ map fof_of formulas
+  pub narrow : AllByRecursion (λ g. length g.atom.args ≤ 32) formulas
+  pub one_goal : length (goals_of formulas) ≡ 1
+
+-- why a problem gives no ground formulas; want of memory may come anywhere
+abbrev pub IsUnground : List Fof → NotGround → Type 0
+IsUnground problem NotBuilt = (formulas : List GroundFormula) → IsGroundProblem problem formulas → ⊥
+IsUnground problem Memory = Unit {0}
 
 -- words with a comma between each two
 abbrev pub listed : List Text → List Text
@@ -47,16 +58,9 @@ abbrev pub args_texts : List Text → List Text
 args_texts [] = []
 args_texts (x ∷ xs) = codes "(" ∷ (listed (x ∷ xs) ++ codes ")" ∷ [])
 
--- the texts of the tokens that spell an atom, a formula, a problem
+-- the texts of the tokens that spell an atom
 abbrev pub atom_texts : GroundAtom → List Text
 atom_texts a = a.predicate ∷ args_texts a.args
-
-abbrev pub formula_texts : GroundFormula → List Text
-formula_texts g = codes "fof" ∷ codes "(" ∷ g.name ∷ codes "," ∷ role_text g.role ∷ codes "," ∷ (atom_texts g.atom ++ codes ")" ∷ codes "." ∷ [])
-
-abbrev pub problem_texts : List GroundFormula → List Text
-problem_texts [] = []
-problem_texts (g ∷ gs) = formula_texts g ++ problem_texts gs
 
 -- the texts of the tokens that spell a step, the steps with the end, a proof
 abbrev pub step_texts : CitedFact → List Text
@@ -77,28 +81,9 @@ pub record HasWords (a : GroundAtom) : Type 0 where
   pub predicate : IsWord a.predicate
   pub args : AllByRecursion IsWord a.args
 
--- a formula's name is a word, and its role that of an axiom or of the conjecture
-abbrev pub IsGroundRole : Role → Type 0
-IsGroundRole Axiom = Unit {0}
-IsGroundRole Conjecture = Unit {0}
-IsGroundRole _ = ⊥
-
-pub record IsGround (g : GroundFormula) : Type 0 where
-  pub name : IsWord g.name
-  pub role : IsGroundRole g.role
-  pub atom : HasWords g.atom
-
 pub record IsCited (s : CitedFact) : Type 0 where
   pub cite : IsWord s.cite
   pub atom : HasWords s.atom
-
--- the texts spell a ground problem: at most 65,536 formulas of at most 32 arguments each, one of them the conjecture
-pub record IsProblemOf (texts : List Text) (problem : List GroundFormula) : Type 0 where
-  pub spelled : texts ≡ problem_texts problem
-  pub words : AllByRecursion IsGround problem
-  pub few : length problem ≤ 65536
-  pub narrow : AllByRecursion (λ g. length g.atom.args ≤ 32) problem
-  pub one_goal : length (goals_of problem) ≡ 1
 
 -- the texts spell a ground proof: at most 65,536 rule applications, the end among them
 pub record IsProofOf (texts : List Text) (steps : List CitedFact) : Type 0 where
@@ -106,9 +91,6 @@ pub record IsProofOf (texts : List Text) (steps : List CitedFact) : Type 0 where
   pub words : AllByRecursion IsCited steps
   pub few : length steps ≤ 65535
 
--- the tokens of the bytes spell a ground problem, or a ground proof
-abbrev pub IsGroundProblem : Text → List GroundFormula → Type 0
-IsGroundProblem bytes problem = (tokens : List Token) × AreTokens bytes tokens × IsProblemOf (texts_of tokens) problem
-
+-- the tokens of the bytes spell a ground proof
 abbrev pub IsGroundProof : Text → List CitedFact → Type 0
 IsGroundProof bytes steps = (tokens : List Token) × AreTokens bytes tokens × IsProofOf (texts_of tokens) steps

@@ -1,17 +1,12 @@
--- How the readers of ground texts go through the texts of tokens, from left to right.
-use Rattle.std.specs.Prelude.{ℕ, zero, suc, ◌≡◌, ◌==◌, nat_le, not, ◌&&◌, count_by, length, Bool, true, false, if◌then◌else◌, List, [], ◌∷◌, ◌++◌, Option, Some, None, Result, Ok, Err, codes}
+-- How the reader of ground proofs goes through the texts of tokens, from left to right.
+use Rattle.std.specs.Prelude.{ℕ, zero, suc, ◌≡◌, Bool, true, false, if◌then◌else◌, List, [], ◌∷◌, ◌++◌, Option, Some, None, Result, Ok, Err, codes}
 use Rattle.std.specs.Option.{option_and_then}
-use Rattle.std.specs.List.{list_all}
 use Rattle.std.specs.Str.{bytes_eq}
 use Rattle.logic_core.specs.Names.{Text, is_lower, is_word_from}
-use Rattle.logic_core.specs.declared.problem.Role.{Role}
-use Rattle.logic_core.specs.declared.problem.Role.TheVariants.{Axiom, Conjecture}
 use Rattle.proof_checker.specs.declared.ground.GroundAtom.{GroundAtom}
-use Rattle.proof_checker.specs.declared.ground.GroundFormula.{GroundFormula}
 use Rattle.proof_checker.specs.declared.ground.CitedFact.{CitedFact}
-use Rattle.proof_checker.specs.Ground.{is_premise}
 use Rattle.proof_checker.specs.declared.words.NotRead.{NotRead}
-use Rattle.proof_checker.specs.declared.words.NotRead.TheVariants.{NotBuilt, Memory}
+use Rattle.proof_checker.specs.declared.words.NotRead.TheVariants.{Lexical, NotBuilt, Memory}
 
 -- what a reader answers: a value with what is left, or nothing; want of memory may come anywhere
 abbrev pub Read : Type 0 → Type 0
@@ -19,8 +14,15 @@ Read X = Option (X × List Text)
 
 abbrev pub Gives : {X Y : Type 0} → (X → Y) → Result X NotRead → Option Y → Type 0
 Gives view (Ok x) read = read ≡ Some (view x)
+Gives view (Err (Lexical refusal)) read = ⊥
 Gives view (Err NotBuilt) read = read ≡ None
 Gives view (Err Memory) read = Unit {0}
+
+-- why texts are not read as a value that they spell
+abbrev pub IsMisfit : {X : Type 0} → (X → Type 0) → NotRead → Type 0
+IsMisfit Is (Lexical refusal) = ⊥
+IsMisfit {X} Is NotBuilt = (value : X) → Is value → ⊥
+IsMisfit Is Memory = Unit {0}
 
 -- what is left after this text
 abbrev pub after : Text → List Text → Option (List Text)
@@ -61,39 +63,6 @@ atom_behind predicate ts (Some inner) = atom_with_args predicate (args_from inne
 
 unfoldable pub atom_from : List Text → Read GroundAtom
 atom_from ts = option_and_then (λ (read : Text × List Text). atom_behind read.0 read.1 (after (codes "(") read.1)) (word_from ts)
-
--- the role that a word spells
-abbrev pub role_from : Text → Option Role
-role_from t = if bytes_eq t (codes "axiom") then Some Axiom else (if bytes_eq t (codes "conjecture") then Some Conjecture else None)
-
--- the end of a formula
-abbrev pub formula_end : Text → Role → GroundAtom × List Text → Read GroundFormula
-formula_end name role read = option_and_then (λ ts. option_and_then (λ ts. Some (record { name = name; role = role; atom = read.0 }, ts)) (after (codes ".") ts)) (after (codes ")") read.1)
-
--- a formula from behind its name on
-abbrev pub formula_behind : Text × List Text → Read GroundFormula
-formula_behind name = option_and_then (λ ts. option_and_then (λ (role : Text × List Text).
-    option_and_then (λ r. option_and_then (λ ts. option_and_then (formula_end name.0 r) (atom_from ts)) (after (codes ",") role.1)) (role_from role.0)) (word_from ts)) (after (codes ",") name.1)
-
-unfoldable pub formula_from : List Text → Read GroundFormula
-formula_from ts = option_and_then (λ ts. option_and_then (λ ts. option_and_then formula_behind (word_from ts)) (after (codes "(") ts)) (after (codes "fof") ts)
-
--- all formulas, at most so many
-unfoldable pub formulas_from : ℕ → List Text → Read (List GroundFormula)
-formulas_from most [] = Some ([], [])
-formulas_from zero (t ∷ ts) = None
-formulas_from (suc most) (t ∷ ts) = option_and_then (λ (read : GroundFormula × List Text). with_front (read.0 ∷ []) (formulas_from most read.1)) (formula_from (t ∷ ts))
-
--- each formula has at most 32 arguments, and one is a conjecture
-abbrev pub is_fit : List GroundFormula → Bool
-is_fit gs = list_all (λ (g : GroundFormula). nat_le (length g.atom.args) 32) gs && count_by (λ (g : GroundFormula). not (is_premise g.role)) gs == 1
-
-abbrev pub fit : List GroundFormula × List Text → Option (List GroundFormula)
-fit read = if is_fit read.0 then Some read.0 else None
-
--- a whole problem, at most so many formulas
-abbrev pub problem_from : ℕ → List Text → Option (List GroundFormula)
-problem_from most ts = option_and_then fit (formulas_from most ts)
 
 -- a step from behind its citation on
 abbrev pub step_end : Text → GroundAtom × List Text → Read CitedFact

@@ -1,22 +1,25 @@
-ghost use Rattle.std.specs.Prelude.{◌≡◌, ℕ, List, [], ◌∷◌, ◌+◌, ◌<◌, ◌^◌, length, false, option_map, IfOk, IsErrOf};
+ghost use Rattle.std.specs.Prelude.{◌≡◌, ◌≢◌, ◌⊎◌, ◌<◌, ◌^◌, length, false, IfOk, IfErr, MatchResult};
 ghost use Rattle.std.specs.Cmp.Lexicographic.{pointwise};
 ghost use Rattle.std.specs.Option.{option_copied};
 ghost use Rattle.std.specs.Str.{bytes_eq};
 ghost use Rattle.proof_checker.specs.Checking as checking;
 ghost use Rattle.proof_checker.specs.Ground as ground;
-ghost use Rattle.proof_checker.specs.Accepted.{AcceptsWith, Refuses};
-ghost use Rattle.proof_checker.specs.declared.ground.CitedFact.{CitedFact as Step};
+ghost use Rattle.proof_checker.specs.Accepted.{AcceptsWith, IsRefusedAs};
+ghost use Rattle.proof_checker.specs.declared.check.FirstRefusal.{FirstRefusal as Refusal};
 
 use crate::ground::{CitedFact, GroundAtom, GroundFormula};
 use crate::reader::read_ground_proof;
 use crate::words::NotRead;
 use logic_core::{Bytes, Role};
 use std::alloc::Global;
+use tptp_lexer::LexRefusal;
 
 /// Why a proof is not accepted.
 #[derive(Debug, Drop)]
 pub enum FirstRefusal {
-    /// The form of its text is not built yet: it is no ground proof.
+    /// Its text has no tokens. The refusal tells the first refused place, and is never want of memory.
+    Lexical(LexRefusal),
+    /// Its form is not built yet: its tokens are no ground proof.
     NotBuilt,
     /// It stands for no vernacular proof of the problem's task.
     Refused,
@@ -98,8 +101,9 @@ fn goal_of(problem: &[GroundFormula]) -> Option<&GroundAtom>
 
 /// Checks a ground proof, in fewer than 2 ^ 32 bytes, against a ground problem. `Ok` is the number of rule
 /// applications of a vernacular proof for which it stands, by the rules of the 2014 paper "A Vernacular for
-/// Coherent Logic". `NotBuilt` comes exactly where the bytes spell no ground proof, `Refused` exactly where they
-/// spell one that stands for no vernacular proof of the problem, and `Memory` is want of memory.
+/// Coherent Logic". `Lexical` comes exactly where the bytes have no tokens, with the first refused place, `NotBuilt`
+/// exactly where they have tokens and these spell no ground proof, `Refused` exactly where they spell one that
+/// stands for no vernacular proof of the problem, and `Memory` is want of memory.
 pub fn check_first(
     alloc: Global,
     problem: &[GroundFormula],
@@ -108,11 +112,14 @@ pub fn check_first(
     requires goal { length (ground.goals_of problem.now) ≡ 1 }
     requires short { length proof.now < 2 ^ 32 }
     ensures accepted { IfOk result (AcceptsWith problem.now proof.now) }
-    ensures refused { IsErrOf result FirstRefusal.Refused → Refuses problem.now proof.now }
-    ensures not_built { IsErrOf result FirstRefusal.NotBuilt → (steps : List Step) → ground.IsGroundProof proof.now steps → ⊥ }
+    ensures refused { IfErr result (IsRefusedAs problem.now proof.now) }
+    // Where the proof is not accepted, the answer says why, unless memory runs out.
+    ensures told { (refusal : Refusal) → refusal ≢ FirstRefusal.Memory → IsRefusedAs problem.now proof.now refusal
+        → MatchResult result (λ size. ⊥) (λ answer. (answer ≡ refusal) ⊎ (answer ≡ FirstRefusal.Memory)) }
 {
     let steps = match read_ground_proof(alloc, proof) {
         Ok(steps) => steps,
+        Err(NotRead::Lexical(refusal)) => return Err(FirstRefusal::Lexical(refusal)),
         Err(NotRead::NotBuilt) => return Err(FirstRefusal::NotBuilt),
         Err(NotRead::Memory) => return Err(FirstRefusal::Memory),
     };

@@ -7,7 +7,7 @@ pub struct GroundAtom {
     pub args: List<Bytes>,
 }
 
-/// A formula of a ground problem. Its role is that of an axiom or of the conjecture.
+/// A formula of a ground problem. Each role but that of the conjecture is that of a premise.
 #[derive(Debug, Drop)]
 pub struct GroundFormula {
     pub name: Bytes,

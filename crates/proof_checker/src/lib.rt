@@ -5,11 +5,13 @@
 mod check;
 mod ground;
 mod laws;
+mod problem;
 mod reader;
 mod words;
 
 pub use check::{FirstRefusal, check_first};
 pub use ground::{CitedFact, GroundAtom, GroundFormula};
 pub use laws::accepted_follows;
-pub use reader::{read_ground_problem, read_ground_proof};
+pub use problem::{NotGround, ground_formulas};
+pub use reader::read_ground_proof;
 pub use words::NotRead;

@@ -1,21 +1,17 @@
-ghost use Rattle.std.specs.Prelude.{◌≡◌, [], ◌<◌, ◌≤◌, ◌^◌, length, nat_le, not, count_by, List as Lst, IfOk, MatchResult};
-ghost use Rattle.std.specs.List.{list_all};
+ghost use Rattle.std.specs.Prelude.{◌≡◌, ◌≢◌, ◌⊎◌, [], ◌<◌, ◌^◌, length, List as Lst, IfOk, IfErr, MatchResult};
 ghost use Rattle.tptp_lexer.specs.Tokens.{Token, AreTokens, texts_of};
+ghost use Rattle.proof_checker.specs.declared.words.NotRead.{NotRead as Fault};
 ghost use Rattle.proof_checker.specs.declared.words.NotRead.TheVariants as faults;
-ghost use Rattle.proof_checker.specs.declared.ground.GroundFormula.{GroundFormula as Formula};
 ghost use Rattle.proof_checker.specs.declared.ground.CitedFact.{CitedFact as Step};
-ghost use Rattle.proof_checker.specs.Ground.{IsGroundProblem, IsGroundProof, IsProblemOf, IsProofOf, is_premise};
-ghost use Rattle.proof_checker.specs.Reading.{Gives, args_from, atom_from, atom_behind, formula_from, formula_behind, formulas_from, role_from, fit, problem_from, empty_list, step_from, step_behind, end_from, closed, steps_from, proof_from};
+ghost use Rattle.proof_checker.specs.Ground.{IsGroundProof, IsProofOf};
+ghost use Rattle.proof_checker.specs.Unread.{IsUnread};
+ghost use Rattle.proof_checker.specs.Reading.{Gives, IsMisfit, args_from, atom_from, atom_behind, empty_list, step_from, step_behind, end_from, closed, steps_from, proof_from};
 
-use crate::check::is_premise;
-use crate::ground::{CitedFact, GroundAtom, GroundFormula};
+use crate::ground::{CitedFact, GroundAtom};
 use crate::words::{NotRead, after, skip, word};
-use logic_core::{Bytes, List, Memory, Role};
+use logic_core::{Bytes, List, Memory};
 use std::alloc::Global;
 use tptp_lexer::{LexRefusal, Tokens, tokens};
-
-/// The greatest number of formulas of a problem.
-const MOST_FORMULAS: usize = 65536;
 
 /// The greatest number of steps of a proof: with its end it has 65,536 rule applications.
 const MOST_STEPS: usize = 65535;
@@ -42,7 +38,7 @@ fn read_args(alloc: Global, texts: &[Bytes]) -> Result<(List<Bytes>, &[Bytes]), 
 
 /// A predicate with its arguments in brackets, or without any.
 #[tactic(auto, unfolding(crate::specs::Reading::atom_from))]
-pub(crate) fn read_atom(alloc: Global, texts: &[Bytes]) -> Result<(GroundAtom, &[Bytes]), NotRead>
+fn read_atom(alloc: Global, texts: &[Bytes]) -> Result<(GroundAtom, &[Bytes]), NotRead>
     ensures { Gives (λ read. (read.0, read.1.now)) result (atom_from texts.now) }
 {
     let (predicate, rest) = word(alloc, texts)?;
@@ -56,73 +52,6 @@ pub(crate) fn read_atom(alloc: Global, texts: &[Bytes]) -> Result<(GroundAtom, &
             Ok((GroundAtom { predicate, args }, rest))
         }
     }
-}
-
-fn role_of(text: &[u8]) -> Option<Role>
-    ensures { result ≡ role_from text.now }
-{
-    if text == b"axiom".as_slice() {
-        Some(Role::Axiom)
-    } else if text == b"conjecture".as_slice() {
-        Some(Role::Conjecture)
-    } else {
-        None
-    }
-}
-
-/// A formula from behind its name on.
-fn read_behind(
-    alloc: Global,
-    name: Bytes,
-    texts: &[Bytes],
-) -> Result<(GroundFormula, &[Bytes]), NotRead>
-    ensures { Gives (λ read. (read.0, read.1.now)) result (formula_behind (name, texts.now)) }
-{
-    let rest = skip(texts, b",")?;
-    let (word, rest) = word(alloc, rest)?;
-    let Some(role) = role_of(word.as_slice()) else {
-        return Err(NotRead::NotBuilt);
-    };
-    let rest = skip(rest, b",")?;
-    let (atom, rest) = read_atom(alloc, rest)?;
-    let rest = skip(rest, b")")?;
-    let rest = skip(rest, b".")?;
-    Ok((GroundFormula { name, role, atom }, rest))
-}
-
-/// A formula.
-#[tactic(auto, unfolding(crate::specs::Reading::formula_from))]
-fn read_formula(alloc: Global, texts: &[Bytes]) -> Result<(GroundFormula, &[Bytes]), NotRead>
-    ensures { Gives (λ read. (read.0, read.1.now)) result (formula_from texts.now) }
-{
-    let rest = skip(texts, b"fof")?;
-    let rest = skip(rest, b"(")?;
-    let (name, rest) = word(alloc, rest)?;
-    read_behind(alloc, name, rest)
-}
-
-/// All formulas, at most so many.
-#[tactic(auto, using(crate::proofs::Fronts::fronts))]
-fn read_formulas(
-    alloc: Global,
-    texts: &[Bytes],
-    most: usize,
-) -> Result<List<GroundFormula>, NotRead>
-    ensures { Gives (λ formulas. (formulas, [])) result (formulas_from most texts.now) }
-{
-    let mut formulas = List::new(alloc);
-    let mut rest = texts;
-    let mut left = most;
-    while !rest.is_empty() {
-        if left == 0 {
-            return Err(NotRead::NotBuilt);
-        }
-        let (formula, tail) = read_formula(alloc, rest)?;
-        formulas.push(formula)?;
-        rest = tail;
-        left -= 1;
-    }
-    Ok(formulas)
 }
 
 /// What is left after an empty list.
@@ -221,80 +150,34 @@ fn texts_in(alloc: Global, bytes: &[u8]) -> Result<List<Bytes>, NotRead>
     requires { length bytes.now < 2 ^ 32 }
     ensures tokens { IfOk result (λ texts. (ts : Lst Token) × AreTokens bytes.now ts × (texts ≡ texts_of ts)) }
     ensures found { (ts : Lst Token) → AreTokens bytes.now ts → MatchResult result (λ texts. texts ≡ texts_of ts) (λ fault. fault ≡ faults.Memory) }
+    ensures refused { IfErr result (IsUnread AreTokens bytes.now) }
 {
     match tokens(alloc, bytes) {
         Ok(tokens) => Ok(token_texts(alloc, &tokens)?),
         Err(LexRefusal::Memory) => Err(NotRead::Memory),
-        Err(_) => Err(NotRead::NotBuilt),
+        Err(refusal) => Err(NotRead::Lexical(refusal)),
     }
-}
-
-fn is_narrow(formulas: &[GroundFormula]) -> bool
-    ensures { result ≡ list_all (λ (g : Formula). nat_le (length g.atom.args) 32) formulas.now }
-{
-    formulas.iter().all(|formula| formula.atom.args.len() <= 32)
-}
-
-fn count_goals(formulas: &[GroundFormula]) -> usize
-    ensures { result ≡ count_by (λ (g : Formula). not (is_premise g.role)) formulas.now }
-{
-    formulas
-        .iter()
-        .filter(|formula| !is_premise(formula.role))
-        .count()
-}
-
-/// The formulas, where each has at most 32 arguments and one is a conjecture.
-fn keep_fit(formulas: List<GroundFormula>) -> Result<List<GroundFormula>, NotRead>
-    ensures { Gives (λ formulas. formulas) result (fit (formulas, [])) }
-{
-    if is_narrow(formulas.as_slice()) && count_goals(formulas.as_slice()) == 1 {
-        Ok(formulas)
-    } else {
-        Err(NotRead::NotBuilt)
-    }
-}
-
-fn problem_in(alloc: Global, texts: &[Bytes], most: usize) -> Result<List<GroundFormula>, NotRead>
-    ensures { Gives (λ formulas. formulas) result (problem_from most texts.now) }
-{
-    let formulas = read_formulas(alloc, texts, most)?;
-    keep_fit(formulas)
-}
-
-fn read_problem(alloc: Global, texts: &[Bytes]) -> Result<List<GroundFormula>, NotRead>
-    ensures read { IfOk result (IsProblemOf texts.now) }
-    ensures found { (problem : Lst Formula) → IsProblemOf texts.now problem → MatchResult result (λ formulas. formulas ≡ problem) (λ fault. fault ≡ faults.Memory) }
-{
-    problem_in(alloc, texts, MOST_FORMULAS)
-}
-
-/// The formulas of a ground problem, in order: axioms and one conjecture, at most 65,536 of at most 32 arguments
-/// each. `NotBuilt` comes exactly where the bytes, fewer than 2 ^ 32, spell no ground problem, and `Memory` is
-/// want of memory.
-pub fn read_ground_problem(alloc: Global, bytes: &[u8]) -> Result<List<GroundFormula>, NotRead>
-    requires { length bytes.now < 2 ^ 32 }
-    ensures read { IfOk result (IsGroundProblem bytes.now) }
-    ensures found { (problem : Lst Formula) → IsGroundProblem bytes.now problem → MatchResult result (λ formulas. formulas ≡ problem) (λ fault. fault ≡ faults.Memory) }
-{
-    let texts = texts_in(alloc, bytes)?;
-    let formulas = read_problem(alloc, texts.as_slice())?;
-    Ok(formulas)
 }
 
 fn read_steps_of(alloc: Global, texts: &[Bytes]) -> Result<List<CitedFact>, NotRead>
     ensures read { IfOk result (IsProofOf texts.now) }
     ensures found { (steps : Lst Step) → IsProofOf texts.now steps → MatchResult result (λ read. read ≡ steps) (λ fault. fault ≡ faults.Memory) }
+    ensures refused { IfErr result (IsMisfit (IsProofOf texts.now)) }
 {
     read_proof(alloc, texts, MOST_STEPS)
 }
 
-/// The steps of a ground proof, in order, at most 65,535, which its end follows. `NotBuilt` comes exactly where
-/// the bytes, fewer than 2 ^ 32, spell no ground proof, and `Memory` is want of memory.
+/// The steps of a ground proof in fewer than 2 ^ 32 bytes, in order, at most 65,535, which its end follows.
+/// `Lexical` comes exactly where the bytes have no tokens, with the first refused place, `NotBuilt` exactly where
+/// they have tokens and these spell no ground proof, and `Memory` is want of memory.
 pub fn read_ground_proof(alloc: Global, bytes: &[u8]) -> Result<List<CitedFact>, NotRead>
     requires { length bytes.now < 2 ^ 32 }
     ensures read { IfOk result (IsGroundProof bytes.now) }
     ensures found { (steps : Lst Step) → IsGroundProof bytes.now steps → MatchResult result (λ read. read ≡ steps) (λ fault. fault ≡ faults.Memory) }
+    ensures refused { IfErr result (IsUnread IsGroundProof bytes.now) }
+    // Where the bytes are not read, the answer says why, unless memory runs out.
+    ensures told { (fault : Fault) → fault ≢ faults.Memory → IsUnread IsGroundProof bytes.now fault
+        → MatchResult result (λ read. ⊥) (λ answer. (answer ≡ fault) ⊎ (answer ≡ faults.Memory)) }
 {
     let texts = texts_in(alloc, bytes)?;
     let steps = read_steps_of(alloc, texts.as_slice())?;

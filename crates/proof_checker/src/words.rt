@@ -6,11 +6,16 @@ ghost use Rattle.proof_checker.specs.Reading.{Gives, after, word_from};
 
 use logic_core::{Bytes, Memory};
 use std::alloc::Global;
+use tptp_lexer::LexRefusal;
 
-/// Why a text was not read: its form is not built yet, or there was no memory.
+/// Why a text was not read.
 #[derive(Debug, Drop)]
 pub enum NotRead {
+    /// It has no tokens. The refusal tells the first refused place, and is never want of memory.
+    Lexical(LexRefusal),
+    /// Its form is not built yet: its tokens are no ground proof.
     NotBuilt,
+    /// Want of memory.
     Memory,
 }
 

@@ -1,30 +1,17 @@
-use Rattle.std.proofs.Common.{◌≡◌, true, false, refl, rules}
-use Rattle.larus_cli.specs.Lines.{is_output}
+use Rattle.std.proofs.Common.{◌≡◌, true, false, refl, sym, ◌∙◌, rules}
 use Rattle.larus_cli.specs.Outcome.{answered, complained}
 use Rattle.larus_cli.proofs.run.answer.Goals as goal
 
-pub returns-then-is_output : goal.returns-then-is_output
-returns-then-is_output g c =
-    let good : is_output c.in-Ok.report ≡ true = search rules in
-    let put = rw (c.as_slice.ensures, c.status.ensures) at c.put_answer-then-is_output.ensures in
-    answered c.in-Ok.report c.in-Ok.line (record {
-      problem = c.names.result.0.now;
-      proof = c.names.result.1.now;
-      words_are = c.names.ensures;
-      told = c.in-Ok.ensures.told;
-      caused = c.in-Ok.ensures.caused;
-      line_is = c.in-Ok.ensures.line;
-    }) good put refl
+pub returns-then-reply : goal.returns-then-reply
+returns-then-reply g c =
+    let (report, said, output, status) = c.in-Ok.ensures in
+    let good : c.in-Ok.reply.is_output ≡ true = search rules in
+    let put = rw (c.as_slice.ensures, sym status) at c.put_answer-then-reply.ensures in
+    answered report c.in-Ok.reply.line said (output ∙ good) put refl
 
 pub returns-in-Ok : goal.returns-in-Ok
 returns-in-Ok g c =
-    let bad : is_output c.in-Ok.report ≡ false = search rules in
-    let put = rw (c.as_slice-else-is_output.ensures, c.status-else-is_output.ensures) at c.put_answer-else-is_output.ensures in
-    complained c.in-Ok.report c.in-Ok.line (record {
-      problem = c.names.result.0.now;
-      proof = c.names.result.1.now;
-      words_are = c.names.ensures;
-      told = c.in-Ok.ensures.told;
-      caused = c.in-Ok.ensures.caused;
-      line_is = c.in-Ok.ensures.line;
-    }) bad put refl
+    let (report, said, output, status) = c.in-Ok.ensures in
+    let bad : c.in-Ok.reply.is_output ≡ false = search rules in
+    let put = rw (c.as_slice-else-reply.ensures, sym status) at c.put_answer-else-reply.ensures in
+    complained report c.in-Ok.reply.line said (output ∙ bad) put refl

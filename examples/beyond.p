@@ -1,0 +1,2 @@
+include('tarski.ax').
+fof(beyond,conjecture,! [A,B] : (A = B | ? [C] : (bet(A,B,C) & B != C))).
