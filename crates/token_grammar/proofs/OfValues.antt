@@ -1,7 +1,7 @@
 -- Each text has a value, and no more than one.
 use Rattle.std.proofs.Common.{◌≡◌, refl, sym, ◌∙◌, ap, subst, inl, inr, List, [], ◌∷◌, ◌++◌, append-nil}
 use Rattle.token_grammar.specs.Grammar.{Grammar, Spelled}
-use Rattle.logic_core.specs.Lists.{IsAmong}
+use Rattle.text_core.specs.Lists.{IsAmong}
 use Rattle.token_grammar.specs.Values.{Place, element, RowValues, SpellsRow, Making, IsSpelling}
 
 pub place_among : {A : Type 0} (list : List A) (a : A) → IsAmong a list → (place : Place list) × (element list place ≡ a)
