@@ -1,7 +1,7 @@
 ghost use Rattle.std.specs.Prelude.{◌≡◌, ◌+◌, ◌-◌, ◌<◌, ◌≤◌, ◌^◌, [], ◌∷◌, vec_len, vec_capacity, ◌++◌, length, take, slice_get, slice_index, Some, None, replicate, IfOk, OnOk, OnErr};
 ghost use Rattle.fact_store.specs.Chains.{latest};
 
-use logic_core::Memory;
+use text_core::Memory;
 use std::alloc::Global;
 use std::marker::Model;
 

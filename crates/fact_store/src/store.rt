@@ -6,7 +6,7 @@ ghost use Rattle.fact_store.specs.Facts.{Facts, stands, newest_of, older_of, Are
 use crate::chains::{Chains, extend_within, push_within};
 use crate::entry::{Entry, args_of, bucket};
 use crate::walk::{grow, stands_in};
-use logic_core::Memory;
+use text_core::Memory;
 use std::alloc::Global;
 use std::marker::Model;
 

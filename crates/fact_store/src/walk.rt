@@ -5,7 +5,7 @@ ghost use Rattle.fact_store.specs.Stored.{AreInBuckets};
 
 use crate::chains::Chains;
 use crate::entry::{Entry, args_of, bucket, is_entry_of};
-use logic_core::Memory;
+use text_core::Memory;
 use std::alloc::Global;
 
 /// Whether a fact stands among the entries, looked for in the chain of its bucket.

@@ -6,7 +6,7 @@ ghost use Rattle.std.specs.Prelude.{◌≡◌, ◌<◌};
 
 use anyhow::Error;
 use fact_store::Store;
-use logic_core::Memory;
+use text_core::Memory;
 use std::alloc::{AllocError, Global};
 use std::env;
 

@@ -2,7 +2,7 @@
 //! prints no times; the word `time` makes it read four million tokens and print them.
 #![tactic(auto)]
 
-use logic_core::Memory;
+use text_core::Memory;
 use std::alloc::Global;
 use std::time::Instant;
 use std::{env, io};

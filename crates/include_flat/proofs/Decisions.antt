@@ -1,9 +1,10 @@
 -- What decides entries, front by front.
 use Rattle.std.proofs.Common.{ℕ, ◌≡◌, ◌+◌, Bool, true, false, cond, List, [], ◌∷◌, ◌++◌, length, Option, Some, None, ap, ◌∙◌, arith, nat_lt, nat_le}
+use Rattle.text_core.specs.declared.limits.TheConstants.{MOST_FORMULAS, MOST_PROBLEM_BYTES}
 use Rattle.include_flat.specs.Walks.{Entry}
 use Rattle.include_flat.specs.Walks.Entry.{fetched, kept, missing, stop}
 use Rattle.include_flat.specs.Progress.{bytes_of}
-use Rattle.include_flat.specs.Flattened.{Decision, decision_after, kept_of, most_total, most_formulas}
+use Rattle.include_flat.specs.Flattened.{Decision, decision_after, kept_of}
 
 later_decided : (test : Bool) (first x y : Option Decision) (d : Decision) → (x ≡ Some d → y ≡ Some d) → cond test first x ≡ Some d →
     cond test first y ≡ Some d
@@ -17,10 +18,10 @@ decided_front bytes formulas [] rest d e = absurd cc
 decided_front bytes formulas (missing file ∷ front) rest d e = e
 decided_front bytes formulas (stop file why ∷ front) rest d e = e
 decided_front bytes formulas (fetched file n ∷ front) rest d e =
-    later_decided (nat_lt most_total (bytes + n)) _ (decision_after (bytes + n) formulas front) _ d
+    later_decided (nat_lt MOST_PROBLEM_BYTES (bytes + n)) _ (decision_after (bytes + n) formulas front) _ d
     (decided_front (bytes + n) formulas front rest d) e
 decided_front bytes formulas (kept file fof ∷ front) rest d e =
-    later_decided (nat_le most_formulas formulas) _ (decision_after bytes (formulas + 1) front) _ d
+    later_decided (nat_le MOST_FORMULAS formulas) _ (decision_after bytes (formulas + 1) front) _ d
     (decided_front bytes (formulas + 1) front rest d) e
 
 later : (test : Bool) (d : Decision) (x y : Option Decision) (z : Option Decision) → (x ≡ None → y ≡ z) → cond test (Some d) x ≡ None →
@@ -38,12 +39,12 @@ undecided_front bytes formulas [] rest e =
 undecided_front bytes formulas (missing file ∷ front) rest e = absurd cc
 undecided_front bytes formulas (stop file why ∷ front) rest e = absurd cc
 undecided_front bytes formulas (fetched file n ∷ front) rest e =
-    later (nat_lt most_total (bytes + n)) _ (decision_after (bytes + n) formulas front) _ _
+    later (nat_lt MOST_PROBLEM_BYTES (bytes + n)) _ (decision_after (bytes + n) formulas front) _ _
     (λ none. undecided_front (bytes + n) formulas front rest none ∙
     (let b : bytes + n + bytes_of front ≡ bytes + (n + bytes_of front) = omega arith in
     ap (λ m. decision_after m (formulas + length (kept_of front)) rest) b)) e
 undecided_front bytes formulas (kept file fof ∷ front) rest e =
-    later (nat_le most_formulas formulas) _ (decision_after bytes (formulas + 1) front) _ _
+    later (nat_le MOST_FORMULAS formulas) _ (decision_after bytes (formulas + 1) front) _ _
     (λ none. undecided_front bytes (formulas + 1) front rest none ∙
     (let f : formulas + 1 + length (kept_of front) ≡ formulas + length (fof ∷ kept_of front) = omega arith in
     ap (λ m. decision_after (bytes + bytes_of front) m rest) f)) e

@@ -1,14 +1,15 @@
 -- What the walk from a first file on comes to.
 use Rattle.std.proofs.Common.{◌≡◌, ◌⊎◌, false, List, [], ◌++◌, length, Option, Some, None, sym, ap, ◌∙◌}
 use Rattle.std.specs.Prelude.{IfSome}
-use Rattle.logic_core.specs.Names.{Text}
+use Rattle.text_core.specs.declared.limits.TheConstants.{MOST_FILES}
+use Rattle.text_core.specs.Names.{Text}
 use Rattle.logic_core.specs.declared.problem.Fof.{Fof}
 use Rattle.io_core.specs.Causes.{Held}
 use Rattle.include_flat.specs.declared.refusal.FlatWhy.{FlatWhy}
 use Rattle.include_flat.specs.declared.refusal.FlatWhy.TheVariants.{Lex, Syntax, FileFault, FileTooLong, AllTooLong, IncludeDepth, TooManyFormulas, Memory}
 use Rattle.include_flat.specs.declared.walked.Walked.{Walked}
 use Rattle.include_flat.specs.Walks.{Entry}
-use Rattle.include_flat.specs.Flattened.{decision, decision_after, is_refused, kept_of, most_files, IsFlat, IsFlatRefused, IsFlatRefusal, IsOutside}
+use Rattle.include_flat.specs.Flattened.{decision, decision_after, is_refused, kept_of, IsFlat, IsFlatRefused, IsFlatRefusal, IsOutside}
 use Rattle.include_flat.specs.Outside.{Known}
 use Rattle.include_flat.specs.Progress.{over_file, decided, PassesOver, RefusesOver, PassesWhole, Refuses, selections_of}
 use Rattle.include_flat.proofs.Known.{where_told}
@@ -19,7 +20,7 @@ from_start : (before : Walked) (entries : List Entry) → before.bytes ≡ 0 →
 from_start before entries bytes problem = λ i. decision_after (sym bytes i) (length (sym problem i)) entries
 
 module _ (held : Held) (name : Text) (before : Walked) (bytes : before.bytes ≡ 0) (problem : before.problem ≡ []) where
-  flat : (after : Walked) (read : List Fof) → read ≡ after.problem → PassesWhole (over_file most_files [] name held) before after →
+  flat : (after : Walked) (read : List Fof) → read ≡ after.problem → PassesWhole (over_file MOST_FILES [] name held) before after →
       IsFlat held name read
   flat after read is p = (
     p.entries,
@@ -28,11 +29,11 @@ module _ (held : Held) (name : Text) (before : Walked) (bytes : before.bytes ≡
     is ∙ p.passed.problem ∙ ap (λ (fofs : List Fof). fofs ++ kept_of p.entries) problem,
   )
 
-  decided_here : (file : Text) (why : FlatWhy) → (entries : List Entry) × over_file most_files [] name held false entries ×
+  decided_here : (file : Text) (why : FlatWhy) → (entries : List Entry) × over_file MOST_FILES [] name held false entries ×
       (decided before entries ≡ Some (is_refused file why)) → IsFlatRefused held name file why
   decided_here file why (entries, walk, e) = (entries, walk, from_start before entries bytes problem ∙ e)
 
-  flat_refusal : (file : Text) (why : FlatWhy) → Refuses (over_file most_files [] name held false) before file why → IsFlatRefusal held name file why
+  flat_refusal : (file : Text) (why : FlatWhy) → Refuses (over_file MOST_FILES [] name held false) before file why → IsFlatRefusal held name file why
   flat_refusal file Memory h = h
   flat_refusal file FileFault (entries, entry, walk, asks, none) = (entries, entry, walk, asks, from_start before entries bytes problem ∙ none)
   flat_refusal file (Lex refusal) h = decided_here file (Lex refusal) h
@@ -45,7 +46,7 @@ module _ (held : Held) (name : Text) (before : Walked) (bytes : before.bytes ≡
 module _ (files later : Known) (name : Text) (selected : Option (List Text)) (before : Walked) (all : selected ≡ None)
     (bytes : before.bytes ≡ 0) (problem : before.problem ≡ []) where
   module _ (after : Walked) (read : List Fof) (is : read ≡ after.problem)
-      (passes : PassesOver (over_file most_files (selections_of selected) name) files later before after) where
+      (passes : PassesOver (over_file MOST_FILES (selections_of selected) name) files later before after) where
     pub passed_whole : IfSome files.held (λ held. IsFlat held name read)
     passed_whole = where_told files.held _ _ (λ held p. flat held name before bytes problem after read is p) (rw all at passes).whole
 
@@ -56,7 +57,7 @@ module _ (files later : Known) (name : Text) (selected : Option (List Text)) (be
     told_list = where_told files.held _ _ (λ held whole file why refused. never_both held name read file why whole refused) passed_whole
 
   module _ (file : Text) (why : FlatWhy)
-      (refuses : RefusesOver (over_file most_files (selections_of selected) name) files later before file why) where
+      (refuses : RefusesOver (over_file MOST_FILES (selections_of selected) name) files later before file why) where
     pub refused_whole : IfSome files.held (λ held. IsFlatRefusal held name file why)
     refused_whole = where_told files.held _ _ (λ held r. flat_refusal held name before bytes problem file why r) (rw all at refuses).ends
 

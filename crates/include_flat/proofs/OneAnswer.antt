@@ -1,12 +1,13 @@
 -- A problem's file has one answer: a list of formulas, or a refusal of one file for one reason.
 use Rattle.std.proofs.Common.{◌≡◌, ◌⊎◌, inl, inr, true, false, refl, List, [], Some, sym, ap, ◌∙◌}
-use Rattle.logic_core.specs.Names.{Text}
+use Rattle.text_core.specs.declared.limits.TheConstants.{MOST_FILES}
+use Rattle.text_core.specs.Names.{Text}
 use Rattle.logic_core.specs.declared.problem.Fof.{Fof}
 use Rattle.io_core.specs.Causes.{Held}
 use Rattle.include_flat.specs.declared.refusal.FlatWhy.{FlatWhy}
 use Rattle.include_flat.specs.declared.refusal.FlatWhy.TheVariants.{Lex, Syntax, FileFault, FileTooLong, AllTooLong, IncludeDepth, TooManyFormulas, Memory}
 use Rattle.include_flat.specs.Walks.{Entry}
-use Rattle.include_flat.specs.Flattened.{Decision, decision, kept_of, most_files, IsFlat, IsFlatRefused, IsFlatRefusal, IsOutside}
+use Rattle.include_flat.specs.Flattened.{Decision, decision, kept_of, IsFlat, IsFlatRefused, IsFlatRefusal, IsOutside}
 use Rattle.include_flat.proofs.OneWalk.{Agree, agree_files, both_whole}
 use Rattle.include_flat.proofs.Decisions.{decided_front}
 
@@ -24,17 +25,17 @@ decide_alike a b d c (inr (inr (_, (rest, more)))) e f = let one = ap decision m
 module _ (held : Held) (name : Text) where
   pub one_list : (problem read : List Fof) → IsFlat held name problem → IsFlat held name read → read ≡ problem
   one_list problem read (a, first, _, is) (b, second, _, reads) =
-      reads ∙ ap kept_of (sym (both_whole a b (agree_files held true true most_files [] name a b first second))) ∙ sym is
+      reads ∙ ap kept_of (sym (both_whole a b (agree_files held true true MOST_FILES [] name a b first second))) ∙ sym is
 
   pub never_both : (problem : List Fof) (file : Text) (why : FlatWhy) → IsFlat held name problem → IsFlatRefused held name file why → ⊥
   never_both problem file why (b, whole, none, _) (a, front, some) =
-      let other = decides_both a b _ (agree_files held false true most_files [] name a b front whole) some in
+      let other = decides_both a b _ (agree_files held false true MOST_FILES [] name a b front whole) some in
       cc
 
   one_refusal : (file other : Text) (why reason : FlatWhy) → IsFlatRefused held name file why → IsFlatRefused held name other reason →
       (file ≡ other) × (why ≡ reason)
   one_refusal file other why reason (a, first, some) (b, second, also) =
-      let same = decide_alike a b _ _ (agree_files held false false most_files [] name a b first second) some also in
+      let same = decide_alike a b _ _ (agree_files held false false MOST_FILES [] name a b first second) some also in
       (cc, cc)
 
   refused_for : (file : Text) (why : FlatWhy) → IsFlatRefusal held name file why → IsOutside why ⊎ IsFlatRefused held name file why

@@ -3,7 +3,7 @@
 use Rattle.std.proofs.Common.{ℕ, ◌≡◌, ◌⊎◌, inl, inr, Bool, true, List, [], ◌∷◌, ◌++◌, length, refl, sym, ap, subst, ◌∙◌, arith}
 use Rattle.std.specs.Prelude.{IsFalse}
 use Rattle.std.proofs.lemmas.List.{append_assoc}
-use Rattle.logic_core.specs.Names.{Text}
+use Rattle.text_core.specs.Names.{Text}
 use Rattle.logic_core.specs.declared.problem.Item.{Item}
 use Rattle.io_core.specs.Causes.{Held}
 use Rattle.tptp_lexer.specs.Tokens.{Token}

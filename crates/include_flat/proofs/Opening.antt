@@ -3,26 +3,27 @@ use Rattle.std.proofs.Common.{ℕ, suc, ◌≡◌, ◌+◌, ◌≤◌, ◌<◌, 
 use Rattle.std.specs.Prelude.{IsSomeAnd}
 use Rattle.std.proofs.lemmas.Bool.Decides.{nat_tests}
 use Rattle.std.specs.FinMap as finite
-use Rattle.logic_core.specs.Names.{Text}
+use Rattle.text_core.specs.declared.limits.TheConstants.{MOST_FILE_BYTES, MOST_PROBLEM_BYTES}
+use Rattle.text_core.specs.Names.{Text}
 use Rattle.logic_core.specs.declared.problem.Item.{Item}
 use Rattle.io_core.specs.Causes.{Held}
 use Rattle.include_flat.specs.declared.refusal.FlatWhy.{FlatWhy}
 use Rattle.include_flat.specs.declared.refusal.FlatWhy.TheVariants.{Lex, Syntax, FileFault, FileTooLong, AllTooLong, IncludeDepth, TooManyFormulas, Memory}
 use Rattle.include_flat.specs.declared.walked.Walked.{Walked}
-use Rattle.include_flat.specs.Walks.{Entry, Selections, WalksFile, most_bytes}
+use Rattle.include_flat.specs.Walks.{Entry, Selections, WalksFile}
 use Rattle.include_flat.specs.Walks.Entry.{fetched, missing, stop}
 use Rattle.include_flat.specs.Walks.WalksFile.{not_held, too_long, read}
 use Rattle.include_flat.specs.Walks.WalksBytes.{unread, no_tokens, no_items}
-use Rattle.include_flat.specs.Flattened.{AsksFor, most_total}
+use Rattle.include_flat.specs.Flattened.{AsksFor}
 use Rattle.include_flat.specs.Outside.{Known, Stays, Leaves}
 use Rattle.include_flat.specs.Opened.{Fetches, FetchRefused, AreBytesOf, IsFetchRefusal, IsTextRefusal}
 use Rattle.include_flat.specs.Progress.{Refuses, IsRefusedAt, Refused, OpensTo, Opens}
 use Rattle.include_flat.proofs.Known.{where_told}
 
-short_or_long : (bytes : Text) → (length bytes ≤ most_bytes) ⊎ (most_bytes < length bytes)
-short_or_long bytes = by (nat_lt most_bytes (length bytes)) refl
+short_or_long : (bytes : Text) → (length bytes ≤ MOST_FILE_BYTES) ⊎ (MOST_FILE_BYTES < length bytes)
+short_or_long bytes = by (nat_lt MOST_FILE_BYTES (length bytes)) refl
   where
-    by : (test : Bool) → nat_lt most_bytes (length bytes) ≡ test → (length bytes ≤ most_bytes) ⊎ (most_bytes < length bytes)
+    by : (test : Bool) → nat_lt MOST_FILE_BYTES (length bytes) ≡ test → (length bytes ≤ MOST_FILE_BYTES) ⊎ (MOST_FILE_BYTES < length bytes)
     by true e = inr (grind (arith, nat_tests))
     by false e = inl (grind (arith, nat_tests))
 
@@ -31,7 +32,7 @@ asked : (held : Held) (name : Text) (left : ℕ) (selections : Selections) →
     (entry : Entry) × WalksFile held false (suc left) selections name (entry ∷ []) × AsksFor name entry
 asked held name left selections = by (finite.get held name) refl
   where
-    opened : (bytes : Text) → finite.get held name ≡ Some bytes → (length bytes ≤ most_bytes) ⊎ (most_bytes < length bytes) →
+    opened : (bytes : Text) → finite.get held name ≡ Some bytes → (length bytes ≤ MOST_FILE_BYTES) ⊎ (MOST_FILE_BYTES < length bytes) →
         (entry : Entry) × WalksFile held false (suc left) selections name (entry ∷ []) × AsksFor name entry
     opened bytes e (inl short) = (fetched name (length bytes), read bytes e short (unread refl), refl)
     opened bytes e (inr long) = (stop name FileTooLong, too_long bytes e long, refl)
@@ -41,7 +42,7 @@ asked held name left selections = by (finite.get held name) refl
     by (Some bytes) e = opened bytes e (short_or_long bytes)
 
 long_refused : (held : Held) (name : Text) (before : Walked) (left : ℕ) (selections : Selections) (found : Option Text) → finite.get held name ≡ found →
-    IsSomeAnd found (λ bytes. most_bytes < length bytes) → Refuses (WalksFile held false (suc left) selections name) before name FileTooLong
+    IsSomeAnd found (λ bytes. MOST_FILE_BYTES < length bytes) → Refuses (WalksFile held false (suc left) selections name) before name FileTooLong
 long_refused held name before left selections None e long = absurd long
 long_refused held name before left selections (Some bytes) e long = (stop name FileTooLong ∷ [], too_long bytes e long, refl)
 
@@ -60,22 +61,22 @@ fetch_refused_at held name before AllTooLong h = absurd h
 fetch_refused_at held name before IncludeDepth h = absurd h
 fetch_refused_at held name before TooManyFormulas h = absurd h
 
-over : (before : Walked) (n : ℕ) → most_total < before.bytes + n → nat_lt most_total (before.bytes + n) ≡ true
+over : (before : Walked) (n : ℕ) → MOST_PROBLEM_BYTES < before.bytes + n → nat_lt MOST_PROBLEM_BYTES (before.bytes + n) ≡ true
 over before n many = grind (arith, nat_tests)
 
-within : (before : Walked) (n : ℕ) → before.bytes + n ≤ most_total → nat_lt most_total (before.bytes + n) ≡ false
+within : (before : Walked) (n : ℕ) → before.bytes + n ≤ MOST_PROBLEM_BYTES → nat_lt MOST_PROBLEM_BYTES (before.bytes + n) ≡ false
 within before n few = grind (arith, nat_tests)
 
 -- the bytes are too many with those that were fetched before
-count_refused_at : (held : Held) (name bytes : Text) (before : Walked) → finite.get held name ≡ Some bytes → length bytes ≤ most_bytes → most_total < before.bytes + length bytes →
+count_refused_at : (held : Held) (name bytes : Text) (before : Walked) → finite.get held name ≡ Some bytes → length bytes ≤ MOST_FILE_BYTES → MOST_PROBLEM_BYTES < before.bytes + length bytes →
     IsRefusedAt held name before AllTooLong
 count_refused_at held name bytes before is short many = record {
   anywhere = λ left selections. (fetched name (length bytes) ∷ [], read bytes is short (unread refl), rw (over before (length bytes) many));
 }
 
 -- the bytes are a text of no items
-text_refused_at : (held : Held) (name bytes : Text) (before : Walked) (why : FlatWhy) → finite.get held name ≡ Some bytes → length bytes ≤ most_bytes →
-    before.bytes + length bytes ≤ most_total → IsTextRefusal bytes why → IsRefusedAt held name before why
+text_refused_at : (held : Held) (name bytes : Text) (before : Walked) (why : FlatWhy) → finite.get held name ≡ Some bytes → length bytes ≤ MOST_FILE_BYTES →
+    before.bytes + length bytes ≤ MOST_PROBLEM_BYTES → IsTextRefusal bytes why → IsRefusedAt held name before why
 text_refused_at held name bytes before (Lex refusal) is short few fault = record {
   anywhere = λ left selections. (
     fetched name (length bytes) ∷ stop name (Lex refusal) ∷ [],
@@ -107,8 +108,8 @@ text_leaves files later name bytes AllTooLong stays h = absurd h
 text_leaves files later name bytes IncludeDepth stays h = absurd h
 text_leaves files later name bytes TooManyFormulas stays h = absurd h
 
-opens_at : (held : Held) (name bytes : Text) (items : List Item) (before after : Walked) → finite.get held name ≡ Some bytes → length bytes ≤ most_bytes →
-    before.bytes + length bytes ≤ most_total → AreBytesOf bytes items → after.bytes ≡ before.bytes + length bytes →
+opens_at : (held : Held) (name bytes : Text) (items : List Item) (before after : Walked) → finite.get held name ≡ Some bytes → length bytes ≤ MOST_FILE_BYTES →
+    before.bytes + length bytes ≤ MOST_PROBLEM_BYTES → AreBytesOf bytes items → after.bytes ≡ before.bytes + length bytes →
     after.problem ≡ before.problem → OpensTo held name items before after
 opens_at held name bytes items before after is short few text counted problem = record {
   bytes = bytes;
@@ -129,14 +130,14 @@ module _ (files later : Known) (name : Text) (before : Walked) where
     ends = where_told files.held _ _ (λ held r. fetch_refused_at held name before why r) h.told;
   }
 
-  pub count_refused : (bytes : Text) (why : FlatWhy) → Fetches files later name bytes → most_total < before.bytes + length bytes →
+  pub count_refused : (bytes : Text) (why : FlatWhy) → Fetches files later name bytes → MOST_PROBLEM_BYTES < before.bytes + length bytes →
       why ≡ AllTooLong → Refused files later name before why
   count_refused bytes why h many reason = subst (Refused files later name before) (sym reason) (record {
     leaves = h.stays;
     ends = where_told files.held _ _ (λ held is. count_refused_at held name bytes before is h.short many) h.holds;
   })
 
-  pub text_refused : (bytes : Text) (why : FlatWhy) → Fetches files later name bytes → before.bytes + length bytes ≤ most_total →
+  pub text_refused : (bytes : Text) (why : FlatWhy) → Fetches files later name bytes → before.bytes + length bytes ≤ MOST_PROBLEM_BYTES →
       IsTextRefusal bytes why → Refused files later name before why
   text_refused bytes why h few r = record {
     leaves = text_leaves files later name bytes why h.stays r;
@@ -144,7 +145,7 @@ module _ (files later : Known) (name : Text) (before : Walked) where
   }
 
   pub file_opened : (bytes : Text) (items : List Item) (after : Walked) → Fetches files later name bytes →
-      before.bytes + length bytes ≤ most_total → AreBytesOf bytes items → after.bytes ≡ before.bytes + length bytes →
+      before.bytes + length bytes ≤ MOST_PROBLEM_BYTES → AreBytesOf bytes items → after.bytes ≡ before.bytes + length bytes →
       after.problem ≡ before.problem → Opens files later name items before after
   file_opened bytes items after h few text counted problem = record {
     stays = h.stays;

@@ -1,24 +1,13 @@
 -- What decides a walk, and the problem that it gives where nothing does.
 use Rattle.std.specs.Prelude.{ℕ, ◌+◌, ◌≡◌, ◌⊎◌, nat_lt, nat_le, Bool, true, false, List, [], ◌∷◌, ◌++◌, Option, Some, None, if◌then◌else◌}
-use Rattle.logic_core.specs.Names.{Text}
+use Rattle.text_core.specs.declared.limits.TheConstants.{MOST_FILES, MOST_FORMULAS, MOST_PROBLEM_BYTES}
+use Rattle.text_core.specs.Names.{Text}
 use Rattle.logic_core.specs.declared.problem.Fof.{Fof}
 use Rattle.io_core.specs.Causes.{Held}
 use Rattle.include_flat.specs.declared.refusal.FlatWhy.{FlatWhy}
 use Rattle.include_flat.specs.declared.refusal.FlatWhy.TheVariants.{FileFault, FileTooLong, AllTooLong, TooManyFormulas, Memory}
 use Rattle.include_flat.specs.Walks.{Entry, WalksFile}
 use Rattle.include_flat.specs.Walks.Entry.{fetched, kept, missing, stop}
-
--- the greatest number of bytes of all files, each fetch counted
-abbrev pub most_total : ℕ
-most_total = 8388608
-
--- the greatest number of formulas that are kept
-abbrev pub most_formulas : ℕ
-most_formulas = 65536
-
--- how many inclusions may stand one in another, with the first file
-abbrev pub most_files : ℕ
-most_files = 17
 
 -- what decides a walk: a file that the files do not hold, or a refusal of a file
 pub data Decision : Type 0 where
@@ -31,9 +20,9 @@ decision_after bytes formulas [] = None
 decision_after bytes formulas (missing file ∷ entries) = Some (is_missing file)
 decision_after bytes formulas (stop file why ∷ entries) = Some (is_refused file why)
 decision_after bytes formulas (fetched file n ∷ entries) =
-    if nat_lt most_total (bytes + n) then Some (is_refused file AllTooLong) else decision_after (bytes + n) formulas entries
+    if nat_lt MOST_PROBLEM_BYTES (bytes + n) then Some (is_refused file AllTooLong) else decision_after (bytes + n) formulas entries
 decision_after bytes formulas (kept file fof ∷ entries) =
-    if nat_le most_formulas formulas then Some (is_refused file TooManyFormulas) else decision_after bytes (formulas + 1) entries
+    if nat_le MOST_FORMULAS formulas then Some (is_refused file TooManyFormulas) else decision_after bytes (formulas + 1) entries
 
 abbrev pub decision : List Entry → Option Decision
 decision entries = decision_after 0 0 entries
@@ -46,7 +35,7 @@ kept_of (_ ∷ entries) = kept_of entries
 
 -- the walk from a first file on, whole or up to some entry
 abbrev pub Walks : Held → Bool → Text → List Entry → Type 0
-Walks held whole name entries = WalksFile held whole most_files [] name entries
+Walks held whole name entries = WalksFile held whole MOST_FILES [] name entries
 
 -- nothing decides the walk, and these are its formulas
 abbrev pub IsFlat : Held → Text → List Fof → Type 0

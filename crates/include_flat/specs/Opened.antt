@@ -1,7 +1,8 @@
 -- What the bytes of a file are, and how they are refused.
 use Rattle.std.specs.Prelude.{◌≡◌, ◌≤◌, List, length, Some, IfSome}
 use Rattle.std.specs.FinMap as finite
-use Rattle.logic_core.specs.Names.{Text}
+use Rattle.text_core.specs.declared.limits.TheConstants.{MOST_FILE_BYTES}
+use Rattle.text_core.specs.Names.{Text}
 use Rattle.logic_core.specs.declared.problem.Item.{Item}
 use Rattle.io_core.specs.Causes.{Held, IsLong}
 use Rattle.io_core.specs.declared.files.FetchFault.{FetchFault}
@@ -15,7 +16,6 @@ use Rattle.tptp_grammar.specs.declared.refusal.SyntaxRefusal.TheVariants as gram
 use Rattle.tptp_grammar.specs.Texts.{AreItemsOf, SyntaxFault}
 use Rattle.include_flat.specs.declared.refusal.FlatWhy.{FlatWhy}
 use Rattle.include_flat.specs.declared.refusal.FlatWhy.TheVariants.{Lex, Syntax, FileFault, FileTooLong, Memory}
-use Rattle.include_flat.specs.Walks.{most_bytes}
 use Rattle.include_flat.specs.Outside.{Known, Stays, Leaves}
 
 -- how a fault of a fetch and a refusal of a text are told of a file
@@ -35,13 +35,13 @@ syntax_why refusal = Syntax refusal
 -- these bytes are fetched
 pub record Fetches (files later : Known) (name bytes : Text) : Type 0 where
   pub stays : Stays files later
-  pub short : length bytes ≤ most_bytes
+  pub short : length bytes ≤ MOST_FILE_BYTES
   pub holds : IfSome files.held (λ held. finite.get held name ≡ Some bytes)
 
 -- a fetch is refused: the bytes are too many, or the cause is none of the file's
 abbrev pub IsFetchRefusal : Held → Text → FlatWhy → Type 0
 IsFetchRefusal held name FileFault = Unit {0}
-IsFetchRefusal held name FileTooLong = IsLong held name most_bytes
+IsFetchRefusal held name FileTooLong = IsLong held name MOST_FILE_BYTES
 IsFetchRefusal held name Memory = Unit {0}
 IsFetchRefusal held name why = ⊥
 

@@ -1,6 +1,6 @@
 -- What a part of a walk leaves of the files.
 use Rattle.std.specs.Prelude.{ℕ, ◌≡◌, ◌≤◌, Option, IfSome}
-use Rattle.logic_core.specs.Names.{Text}
+use Rattle.text_core.specs.Names.{Text}
 use Rattle.io_core.specs.Causes.{Held, Rose}
 use Rattle.include_flat.specs.declared.refusal.FlatWhy.{FlatWhy}
 use Rattle.include_flat.specs.declared.refusal.FlatWhy.TheVariants.{FileFault}

@@ -1,14 +1,15 @@
 -- How a part of a walk goes on from what was walked before.
 use Rattle.std.specs.Prelude.{ℕ, suc, ◌+◌, ◌≡◌, ◌≤◌, Bool, true, false, List, [], ◌∷◌, ◌++◌, length, Option, Some, None, IfSome}
 use Rattle.std.specs.FinMap as finite
-use Rattle.logic_core.specs.Names.{Text}
+use Rattle.text_core.specs.declared.limits.TheConstants.{MOST_FILE_BYTES}
+use Rattle.text_core.specs.Names.{Text}
 use Rattle.logic_core.specs.declared.problem.Fof.{Fof}
 use Rattle.logic_core.specs.declared.problem.Item.{Item}
 use Rattle.io_core.specs.Causes.{Held}
 use Rattle.include_flat.specs.declared.refusal.FlatWhy.{FlatWhy}
 use Rattle.include_flat.specs.declared.refusal.FlatWhy.TheVariants.{FileFault, TooManyFormulas, Memory}
 use Rattle.include_flat.specs.declared.walked.Walked.{Walked}
-use Rattle.include_flat.specs.Walks.{Entry, Selections, WalksFile, WalksItems, is_selected, kept_entries, most_bytes}
+use Rattle.include_flat.specs.Walks.{Entry, Selections, WalksFile, WalksItems, is_selected, kept_entries}
 use Rattle.include_flat.specs.Walks.Entry.{fetched}
 use Rattle.include_flat.specs.Flattened.{Decision, decision_after, is_refused, kept_of, AsksFor}
 use Rattle.include_flat.specs.Outside.{Known, Stays, Leaves}
@@ -63,7 +64,7 @@ pub record RefusesOver (Part : Held → Bool → List Entry → Type 0) (files l
 pub record OpensTo (held : Held) (file : Text) (items : List Item) (before after : Walked) : Type 0 where
   pub bytes : Text
   pub held_is : finite.get held file ≡ Some bytes
-  pub short : length bytes ≤ most_bytes
+  pub short : length bytes ≤ MOST_FILE_BYTES
   pub read : AreBytesOf bytes items
   pub passed : Passes before (fetched file (length bytes) ∷ []) after
 

@@ -4,7 +4,8 @@ use Rattle.std.specs.Prelude.{ℕ, zero, suc, ◌≡◌, ◌≤◌, ◌<◌, Boo
 use Rattle.std.specs.List.{list_all, list_any}
 use Rattle.std.specs.Str.{bytes_eq}
 use Rattle.std.specs.FinMap as finite
-use Rattle.logic_core.specs.Names.{Text}
+use Rattle.text_core.specs.declared.limits.TheConstants.{MOST_FILE_BYTES}
+use Rattle.text_core.specs.Names.{Text}
 use Rattle.logic_core.specs.declared.problem.Fof.{Fof}
 use Rattle.logic_core.specs.declared.problem.Item.{Item}
 use Rattle.logic_core.specs.declared.problem.Item.TheVariants.{Fof as ItemFof, Include}
@@ -16,10 +17,6 @@ use Rattle.tptp_grammar.specs.declared.refusal.SyntaxRefusal.{SyntaxRefusal}
 use Rattle.tptp_grammar.specs.Texts.{AreItemsOf, SyntaxFault}
 use Rattle.include_flat.specs.declared.refusal.FlatWhy.{FlatWhy}
 use Rattle.include_flat.specs.declared.refusal.FlatWhy.TheVariants.{Lex, Syntax, FileTooLong, IncludeDepth}
-
--- the greatest number of bytes of a file
-abbrev pub most_bytes : ℕ
-most_bytes = 4194304
 
 -- what is met on the walk
 pub data Entry : Type 0 where
@@ -57,9 +54,9 @@ module _ (held : Held) where
       not_held : {whole : Bool} {left : ℕ} {selections : Selections} {file : Text} → finite.get held file ≡ None →
           WalksFile whole (suc left) selections file (missing file ∷ [])
       too_long : {whole : Bool} {left : ℕ} {selections : Selections} {file : Text} (bytes : Text) → finite.get held file ≡ Some bytes →
-          most_bytes < length bytes → WalksFile whole (suc left) selections file (stop file FileTooLong ∷ [])
+          MOST_FILE_BYTES < length bytes → WalksFile whole (suc left) selections file (stop file FileTooLong ∷ [])
       read : {whole : Bool} {left : ℕ} {selections : Selections} {file : Text} {entries : List Entry} (bytes : Text) → finite.get held file ≡ Some bytes →
-          length bytes ≤ most_bytes → WalksBytes whole left selections file bytes entries →
+          length bytes ≤ MOST_FILE_BYTES → WalksBytes whole left selections file bytes entries →
           WalksFile whole (suc left) selections file (fetched file (length bytes) ∷ entries)
 
     -- the walk over the bytes of a file

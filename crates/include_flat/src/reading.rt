@@ -8,11 +8,9 @@ use crate::walked::Walked;
 use io_core::Files;
 use logic_core::{Bytes, Items};
 use std::alloc::Global;
+use text_core::MOST_FILE_BYTES;
 use tptp_grammar::read_items;
 use tptp_lexer::tokens;
-
-/// The greatest number of bytes of a file.
-const MOST_BYTES: u32 = 4194304;
 
 /// The bytes of a file, which are at most so many as a file may have.
 fn fetch<F: Files>(alloc: Global, files: &mut F, name: &[u8]) -> Result<Bytes, FlatWhy>
@@ -20,13 +18,13 @@ fn fetch<F: Files>(alloc: Global, files: &mut F, name: &[u8]) -> Result<Bytes, F
     ensures refused { IfErr result (λ why. FetchRefused (known (F.held files.old) (F.faults files.old) (F.given files.old) (F.blamed files.old)) (known (F.held files.new) (F.faults files.new) (F.given files.new) (F.blamed files.new)) name.now why) }
 {
     let mut bytes = Bytes::new(alloc);
-    files.fetch(alloc, name, MOST_BYTES, &mut bytes)?;
+    files.fetch(alloc, name, MOST_FILE_BYTES, &mut bytes)?;
     Ok(bytes)
 }
 
 /// The items that the bytes of a file are a text of.
 fn items_of(alloc: Global, bytes: &[u8]) -> Result<Items, FlatWhy>
-    requires { length bytes.now ≤ MOST_BYTES }
+    requires { length bytes.now ≤ MOST_FILE_BYTES }
     ensures text { IfOk result (AreBytesOf bytes.now) }
     ensures refused { IfErr result (IsTextRefusal bytes.now) }
 {

@@ -1,5 +1,5 @@
 ghost use Rattle.std.specs.Prelude.{◌≡◌, ◌≤◌, ◌⊎◌, List as Lst, IfSome, IfOk, IfErr, OnOk, MatchResult};
-ghost use Rattle.logic_core.specs.Names.{Text};
+ghost use Rattle.text_core.specs.Names.{Text};
 ghost use Rattle.logic_core.specs.declared.problem.Fof.{Fof as Formula};
 ghost use Rattle.io_core.specs.Causes.{Rose};
 ghost use Rattle.include_flat.specs.declared.refusal.FlatWhy.{FlatWhy as Why};
@@ -17,9 +17,7 @@ use crate::walked::Walked;
 use io_core::Files;
 use logic_core::{Bytes, Fof, Item, Items, List, Name, Problem};
 use std::alloc::Global;
-
-/// The greatest number of inclusions that stand one in another, with the first file.
-const MOST_FILES: u32 = 17;
+use text_core::MOST_FILES;
 
 /// The formulas of a problem's file, with those of each included file in the place of its inclusion, in order. A formula is kept where
 /// its name is in every selection on the way from the first file. Each inclusion fetches its file anew.

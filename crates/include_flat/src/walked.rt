@@ -5,19 +5,14 @@ ghost use Rattle.include_flat.specs.declared.refusal.FlatWhy.TheVariants as whys
 use crate::refusal::FlatWhy;
 use logic_core::{Fof, Problem};
 use std::alloc::Global;
-
-/// The greatest number of bytes of all files, each fetch counted.
-const MOST_TOTAL: u32 = 8388608;
-
-/// The greatest number of formulas that are kept.
-const MOST_FORMULAS: usize = 65536;
+use text_core::{MOST_FORMULAS, MOST_PROBLEM_BYTES};
 
 /// What was walked so far: the number of fetched bytes, and the formulas that are kept.
 #[derive(Drop)]
 pub(crate) struct Walked {
     bytes: u32,
     problem: Problem,
-    ghost within: { bytes ≤ 8388608 },
+    ghost within: { bytes ≤ MOST_PROBLEM_BYTES },
 }
 
 impl Walked {
@@ -35,12 +30,12 @@ impl Walked {
     /// Counts the bytes of one more fetch, where all are not too many.
     pub(crate) fn count(&mut self, more: usize) -> Result<(), FlatWhy>
         ensures counted { OnOk result (self.new.bytes ≡ self.old.bytes + more) }
-        ensures few { OnOk result (self.old.bytes + more ≤ 8388608) }
+        ensures few { OnOk result (self.old.bytes + more ≤ MOST_PROBLEM_BYTES) }
         ensures problem { self.new.problem ≡ self.old.problem }
         ensures too_long { IfErr result (λ why. why ≡ whys.AllTooLong) }
-        ensures many { IfErr result (λ why. 8388608 < self.old.bytes + more) }
+        ensures many { IfErr result (λ why. MOST_PROBLEM_BYTES < self.old.bytes + more) }
     {
-        if more > (MOST_TOTAL - self.bytes) as usize {
+        if more > (MOST_PROBLEM_BYTES - self.bytes) as usize {
             return Err(FlatWhy::AllTooLong);
         }
         self.bytes += more as u32;
@@ -51,11 +46,11 @@ impl Walked {
     pub(crate) fn keep(&mut self, fof: Fof) -> Result<(), FlatWhy>
         requires { FofMayStand fof }
         ensures kept { OnOk result (self.new.problem ≡ self.old.problem ++ fof ∷ []) }
-        ensures few { OnOk result (length self.old.problem < 65536) }
+        ensures few { OnOk result (length self.old.problem < MOST_FORMULAS) }
         ensures bytes { self.new.bytes ≡ self.old.bytes }
-        ensures refused { IfErr result (λ why. (why ≡ whys.Memory) ⊎ ((why ≡ whys.TooManyFormulas) × (65536 ≤ length self.old.problem))) }
+        ensures refused { IfErr result (λ why. (why ≡ whys.Memory) ⊎ ((why ≡ whys.TooManyFormulas) × (MOST_FORMULAS ≤ length self.old.problem))) }
     {
-        if self.problem.as_slice().len() >= MOST_FORMULAS {
+        if self.problem.as_slice().len() >= MOST_FORMULAS as usize {
             return Err(FlatWhy::TooManyFormulas);
         }
         self.problem.push(fof)?;

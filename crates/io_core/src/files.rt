@@ -1,8 +1,8 @@
 ghost use Rattle.std.specs.Prelude.{◌≡◌, ◌≤◌, ◌↔◌, ℕ, List, Option, IsTrue, is_some, IfSome, OnOk, OnErr, IsErrOf};
-ghost use Rattle.logic_core.specs.Names.{Text};
+ghost use Rattle.text_core.specs.Names.{Text};
 ghost use Rattle.io_core.specs.Causes.{Held, Rose, RoseAbove, AppendsAtMost, AppendsHeld, IsWithin, IsLong};
 
-use logic_core::{Bytes, Memory};
+use text_core::{Bytes, Memory};
 use std::alloc::Global;
 
 /// Why a fetch gave no bytes.

@@ -7,7 +7,7 @@ ghost use Rattle.io_core.specs.InMemory.{found, given_after};
 
 use crate::count::raised_by;
 use crate::files::{FetchFault, Files};
-use logic_core::{Bytes, Memory};
+use text_core::{Bytes, Memory};
 use std::alloc::Global;
 use std::collections::HashMap;
 use std::marker::Model;

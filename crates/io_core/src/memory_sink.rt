@@ -5,7 +5,7 @@ ghost use Rattle.io_core.specs.InMemory.{taken, put_fails, puts_after};
 
 use crate::count::raised_by;
 use crate::sink::{Sink, SinkFault};
-use logic_core::Memory;
+use text_core::Memory;
 use std::alloc::Global;
 use std::marker::Model;
 

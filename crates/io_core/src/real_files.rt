@@ -3,7 +3,7 @@ ghost use Rattle.io_core.specs.Causes.{raised, Rose, RoseAbove, AppendsAtMost};
 
 use crate::count::raised_by;
 use crate::files::{FetchFault, Files};
-use logic_core::{Bytes, Memory};
+use text_core::{Bytes, Memory};
 use std::alloc::Global;
 use std::fs::File;
 use std::io::Read;

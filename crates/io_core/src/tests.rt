@@ -1,5 +1,5 @@
 use crate::{FetchFault, Files, MemoryFiles, MemorySink, RealFiles, Sink, SinkFault, StreamSink};
-use logic_core::{Bytes, Memory};
+use text_core::{Bytes, Memory};
 use std::fs;
 use std::fs::File;
 use std::test::Fail;

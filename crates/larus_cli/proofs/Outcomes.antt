@@ -1,7 +1,7 @@
 -- What the ways in which a run ends say of its status.
 use Rattle.std.specs.Prelude.{◌≡◌, ℕ, false, List, [], ◌∷◌, map, length, Option, Some, None, IfSome, codes}
 use Rattle.std.proofs.Common.{inl, inr, arith, sym, ◌∙◌, subst}
-use Rattle.logic_core.specs.Names.{Text}
+use Rattle.text_core.specs.Names.{Text}
 use Rattle.logic_core.specs.Truth.{Structure}
 use Rattle.logic_core.specs.Problems.{Follows}
 use Rattle.vernacular_tree.specs.declared.tree.Body.{Body}

@@ -1,6 +1,6 @@
 -- What is known of files, where they tell what they hold.
 use Rattle.std.specs.Prelude.{◌≡◌, List, Option, Some, None, IfSome}
-use Rattle.logic_core.specs.Names.{Text}
+use Rattle.text_core.specs.Names.{Text}
 use Rattle.logic_core.specs.declared.problem.Fof.{Fof}
 use Rattle.io_core.specs.Causes.{Held}
 use Rattle.include_flat.specs.Flattened.{IsFlat}

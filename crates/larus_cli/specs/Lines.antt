@@ -1,7 +1,7 @@
 -- What the program prints, and with which status it ends.
 use Rattle.std.specs.Prelude.{ℕ, Bool, true, false, [], ◌∷◌, ◌++◌, codes}
 use Rattle.std.specs.Fmt.{decimal}
-use Rattle.logic_core.specs.Names.{Text}
+use Rattle.text_core.specs.Names.{Text}
 use Rattle.tptp_lexer.specs.declared.refusal.LexRefusal.{LexRefusal}
 use Rattle.tptp_lexer.specs.declared.refusal.LexRefusal.TheVariants as lexical
 use Rattle.tptp_grammar.specs.declared.refusal.SyntaxRefusal.{SyntaxRefusal}

@@ -1,7 +1,8 @@
 -- How a run of the program ends: what its answer says of the files, where the answer goes, and what causes each status.
 use Rattle.std.specs.Prelude.{ℕ, ◌≡◌, ◌≢◌, ◌≤◌, ◌⊎◌, ◌++◌, Bool, true, false, List, [], ◌∷◌, length, Option, Some, None, IfSome, codes, map}
 use Rattle.std.specs.FinMap as finite
-use Rattle.logic_core.specs.Names.{Text}
+use Rattle.text_core.specs.declared.limits.TheConstants.{MOST_FILE_BYTES}
+use Rattle.text_core.specs.Names.{Text}
 use Rattle.logic_core.specs.Truth.{Structure}
 use Rattle.logic_core.specs.Problems.{Follows}
 use Rattle.logic_core.specs.declared.problem.Fof.{Fof}
@@ -12,7 +13,6 @@ use Rattle.tptp_grammar.specs.Texts.{AreItemsOf}
 use Rattle.tptp_printer.specs.Canonical.{problem_text}
 use Rattle.include_flat.specs.declared.refusal.FlatWhy.{FlatWhy}
 use Rattle.include_flat.specs.declared.refusal.FlatWhy.TheVariants as flat
-use Rattle.include_flat.specs.Walks.{most_bytes}
 use Rattle.include_flat.specs.Flattened.{IsFlat, IsFlatRefused, IsAskedFor}
 use Rattle.proof_checker.specs.declared.ground.GroundFormula.{GroundFormula}
 use Rattle.proof_checker.specs.declared.words.NotRead.{NotRead}
@@ -30,7 +30,7 @@ use Rattle.larus_cli.specs.Words.{command_of}
 -- the files hold these bytes under a name, and they are not too many
 pub record HoldsBytes (held : Held) (name bytes : Text) : Type 0 where
   pub held_is : finite.get held name ≡ Some bytes
-  pub short : length bytes ≤ most_bytes
+  pub short : length bytes ≤ MOST_FILE_BYTES
 
 -- the text has tokens, which are a text of these formulas
 abbrev pub ReadsBack : Text → List Fof → Type 0
@@ -50,7 +50,7 @@ HoldsUnread held name why = (bytes : Text) × HoldsBytes held name bytes × IsUn
 abbrev pub ProofFileReported : Held → Text → ProofRefusal → Type 0
 ProofFileReported held name (proof.Lexical refusal) = HoldsUnread held name (unread.Lexical refusal)
 ProofFileReported held name proof.FileFault = Unit {0}
-ProofFileReported held name proof.FileTooLong = IsLong held name most_bytes
+ProofFileReported held name proof.FileTooLong = IsLong held name MOST_FILE_BYTES
 ProofFileReported held name proof.NotBuilt = HoldsUnread held name unread.NotBuilt
 
 -- what a report says of the proof's file, where the problem was read

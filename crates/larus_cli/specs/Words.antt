@@ -1,7 +1,7 @@
 -- Which words are which command.
 use Rattle.std.specs.Prelude.{if◌then◌else◌, List, [], ◌∷◌, Option, Some, None, codes}
 use Rattle.std.specs.Str.{bytes_eq}
-use Rattle.logic_core.specs.Names.{Text}
+use Rattle.text_core.specs.Names.{Text}
 use Rattle.larus_cli.specs.declared.command.Command.{Command}
 use Rattle.larus_cli.specs.declared.command.Command.TheVariants.{Check, ConvertProblem}
 

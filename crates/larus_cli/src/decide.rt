@@ -11,22 +11,20 @@ use io_core::{FetchFault, Files};
 use logic_core::{Bytes, Memory};
 use proof_checker::{FirstRefusal, GroundFormula, NotGround, check_first, ground_formulas};
 use std::alloc::Global;
+use text_core::MOST_FILE_BYTES;
 use tptp_printer::print_problem;
-
-/// The greatest number of bytes of a file.
-const MOST_BYTES: u32 = 4194304;
 
 /// The bytes of a file, which are at most so many as a file may have.
 fn fetch_whole<F: Files>(alloc: Global, files: &mut F, name: &[u8]) -> Result<Bytes, FetchFault>
-    ensures short { IfOk result (λ bytes. length bytes ≤ MOST_BYTES) }
+    ensures short { IfOk result (λ bytes. length bytes ≤ MOST_FILE_BYTES) }
     ensures holds { IfSome (F.held files.old) (λ held. IfOk result (λ bytes. HoldsBytes held name.now bytes)) }
-    ensures long { IfSome (F.held files.old) (λ held. IsErrOf result FetchFault.TooLong → IsLong held name.now MOST_BYTES) }
+    ensures long { IfSome (F.held files.old) (λ held. IsErrOf result FetchFault.TooLong → IsLong held name.now MOST_FILE_BYTES) }
     ensures failed { IsErrOf result FetchFault.Failed → FetchFailed (outside (F.held files.old) (F.faults files.old) (F.blamed files.old)) (outside (F.held files.new) (F.faults files.new) (F.blamed files.new)) name.now }
     ensures held_stays { F.held files.new ≡ F.held files.old }
     ensures faults_grow { F.faults files.old ≤ F.faults files.new }
 {
     let mut bytes = Bytes::new(alloc);
-    match files.fetch(alloc, name, MOST_BYTES, &mut bytes) {
+    match files.fetch(alloc, name, MOST_FILE_BYTES, &mut bytes) {
         Ok(()) => Ok(bytes),
         Err(FetchFault::Failed) => Err(FetchFault::Failed),
         Err(FetchFault::TooLong) => Err(FetchFault::TooLong),

@@ -1,7 +1,7 @@
 ghost use Rattle.std.specs.Prelude.{◌≡◌, ◌⊎◌, [], ◌∷◌, ℕ, List, Some, None, IfSome, IfOk, codes};
 ghost use Rattle.logic_core.specs.Truth.{structure};
-ghost use Rattle.logic_core.specs.Lists.{IsAmong};
-ghost use Rattle.logic_core.specs.Names.{Text};
+ghost use Rattle.text_core.specs.Lists.{IsAmong};
+ghost use Rattle.text_core.specs.Names.{Text};
 ghost use Rattle.io_core.specs.Causes.{Rose};
 ghost use Rattle.larus_cli.specs.Words.{command_of};
 ghost use Rattle.larus_cli.specs.Lines.{line_of, is_output, status_of};

@@ -2,8 +2,8 @@
 -- "A Vernacular for Coherent Logic".
 use Rattle.std.specs.Prelude.{ℕ, ◌+◌, ◌<◌, ◌≡◌, ◌==◌, zero, suc, Bool, false, List, [], ◌∷◌, ◌++◌, map, length, slice_get, slice_index, Option, Some, None}
 use Rattle.std.specs.List.{AllByRecursion}
-use Rattle.logic_core.specs.Names.{Text}
-use Rattle.logic_core.specs.Lists.{SomeOf}
+use Rattle.text_core.specs.Numbered.{Symbol, Tables, text_or_empty}
+use Rattle.text_core.specs.Lists.{SomeOf}
 use Rattle.logic_core.specs.Truth.{Structure}
 use Rattle.logic_core.specs.declared.form.Slot.{Slot}
 use Rattle.logic_core.specs.declared.form.Slot.TheVariants.{Variable, Constant}
@@ -24,17 +24,6 @@ pub record IsWellFormed (constants : ℕ) (form : Form) : Type 0 where
   pub premises : AllByRecursion (AtomIsBelow form.universals constants) form.premises
   pub disjuncts : AllByRecursion (AllByRecursion (AtomIsBelow (form.universals + form.existentials) constants)) form.disjuncts
 
--- a predicate symbol is a name with an arity
-pub record Symbol : Type 0 where
-  pub name : Text
-  pub arity : ℕ
-
--- what the numbers in forms stand for: symbol 0 is equality, symbol n + 1 is the n-th of the symbols, and
--- constant c the c-th of the constants
-pub record Tables : Type 0 where
-  pub symbols : List Symbol
-  pub constants : List Text
-
 -- a structure for symbols and constants that are numbers
 pub record Interpretation : Type 1 where
   pub element : ℕ → Type 0
@@ -54,10 +43,6 @@ holds_by_name s None xs = false
 abbrev pub holds_by_number : Structure → Tables → ℕ → List ℕ → Bool
 holds_by_number s tables zero xs = are_equal xs
 holds_by_number s tables (suc n) xs = holds_by_name s (slice_get tables.symbols n) xs
-
-abbrev pub text_or_empty : Option Text → Text
-text_or_empty (Some name) = name
-text_or_empty None = []
 
 -- a structure, through the numbers of the tables
 abbrev pub interpretation : Structure → Tables → Interpretation

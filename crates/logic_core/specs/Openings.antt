@@ -4,7 +4,7 @@ use Rattle.std.proofs.Common.{ap}
 use mathlib.Core.Former.{arity, list, this}
 use denote.Hole.Carrier.{hidden}
 use Rattle.logic_core.specs.Nesting.{depth}
-use Rattle.logic_core.specs.Names.{Text}
+use Rattle.text_core.specs.Names.{Text}
 use Rattle.logic_core.specs.declared.formula.Op.{Op}
 use Rattle.logic_core.specs.declared.formula.Formula.{Formula, Not, And, Or, Binary, ForAll, Exists, Not', And', Or', Binary', ForAll', Exists', Row_of-Formula, end_of-Formula, more_of-Formula}
 use Rattle.logic_core.specs.declared.formula.Formula.TheBlock.{shape-the_row-Formula-0, hidden-the_row-Formula-0, shape-the_row-Formula-1, hidden-the_row-Formula-1}

@@ -1,8 +1,9 @@
 -- Which formulas and items may stand in a problem, and what it means that a problem's conjecture follows.
 use Rattle.std.specs.Prelude.{◌≤◌, List, [], ◌++◌, Some, None, IsTrue}
 use Rattle.std.specs.List.{AllByRecursion}
-use Rattle.logic_core.specs.Names.{Text, is_upper_word}
-use Rattle.logic_core.specs.Lists.{SomeOf, IsAmong, HasOne}
+use Rattle.text_core.specs.Names.{Text, is_upper_word}
+use Rattle.text_core.specs.Lists.{SomeOf, IsAmong, HasOne}
+use Rattle.text_core.specs.declared.limits.TheConstants.{MOST_LEVELS}
 use Rattle.logic_core.specs.Truth.{Structure, IsTrueIn}
 use Rattle.logic_core.specs.Nesting.{nesting}
 use Rattle.logic_core.specs.declared.formula.Term.{Term}
@@ -47,10 +48,10 @@ abbrev mutual
   EachIsBoundIn scope end_of-Formula = Unit {0}
   EachIsBoundIn scope (more_of-Formula g rest) = IsBoundIn scope g × EachIsBoundIn scope rest
 
--- a formula may stand in a problem: it is closed and its nesting is at most 200
+-- a formula may stand in a problem: it is closed, and not nested too deep
 pub record MayStand (f : Formula) : Type 0 where
   pub closed : IsBoundIn [] f
-  pub shallow : nesting f ≤ 200
+  pub shallow : nesting f ≤ MOST_LEVELS
 
 abbrev pub FofMayStand : Fof → Type 0
 FofMayStand fof = MayStand fof.formula

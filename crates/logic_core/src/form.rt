@@ -1,4 +1,4 @@
-use crate::list::List;
+use text_core::List;
 
 /// A place of an atom's argument list. In a form, `Variable(i)` is universal where `i` is below the number of
 /// the form's universal variables, and else existential; `Constant(c)` is constant number `c`. In a line of a

@@ -1,6 +1,4 @@
-use crate::list::List;
-use crate::name::Name;
-use sqlite_items::Boxed;
+use text_core::{Boxed, List, Name};
 
 /// A term without function symbols. Source: the TPTP syntax, FOF.
 #[derive(Debug, Drop)]

@@ -5,9 +5,6 @@
 mod form;
 mod formula;
 mod formula_copy;
-mod list;
-mod memory;
-mod name;
 mod problem;
 #[cfg(test)]
 mod tests;
@@ -15,9 +12,6 @@ mod world;
 
 pub use form::{Atom, Form, Slot};
 pub use formula::{Formula, Op, Term};
-pub use list::{Bytes, List};
-pub use memory::Memory;
-pub use name::Name;
 pub use problem::{Fof, Item, Items, Problem, Role};
-pub use sqlite_items::Boxed;
+pub use text_core::{Boxed, Bytes, List, Memory, Name};
 pub use world::{AnyWorld, World};

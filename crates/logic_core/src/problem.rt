@@ -3,11 +3,9 @@ ghost use Rattle.std.specs.List.{AllByRecursion};
 ghost use Rattle.logic_core.specs.Problems.{FofMayStand, ItemMayStand};
 
 use crate::formula::Formula;
-use crate::list::List;
-use crate::memory::Memory;
-use crate::name::Name;
 use std::alloc::Global;
 use std::marker::Model;
+use text_core::{List, MOST_FORMULAS, Memory, Name};
 
 /// What a formula of a problem is there for. All but the last are premises. Source: the TPTP syntax.
 #[derive(Clone, Copy, PartialEq, Eq, Debug)]
@@ -42,14 +40,14 @@ pub enum Item {
     },
 }
 
-/// The items of a problem's text, in order: each formula is closed, its nesting is at most 200, and no
+/// The items of a problem's text, in order: each formula is closed and not nested too deep, and no
 /// selection is empty. Contracts see the list of items.
 #[derive(Debug, Drop)]
 pub struct Items {
     items: List<Item>,
 }
 
-/// A problem without inclusions: at most 65,536 formulas, each closed and of nesting at most 200. Contracts see
+/// A problem without inclusions: at most `MOST_FORMULAS` formulas, each closed and not nested too deep. Contracts see
 /// the list of formulas.
 #[derive(Debug, Drop)]
 pub struct Problem {
@@ -85,11 +83,12 @@ impl Model for Problem {
 
     ghost coded = { Prim.hlevel (codes, fof.the_row.coded) };
 
+    ghost use Rattle.text_core.specs.declared.limits.TheConstants.{MOST_FORMULAS};
     ghost use Rattle.logic_core.specs.Problems.{FofMayStand};
 
     ghost view = { λ it. it.formulas };
 
-    ghost invariant = { λ it. (length it.formulas ≤ 65536) × AllByRecursion FofMayStand it.formulas };
+    ghost invariant = { λ it. (length it.formulas ≤ MOST_FORMULAS) × AllByRecursion FofMayStand it.formulas };
 }
 
 impl Items {
@@ -142,17 +141,17 @@ impl Problem {
     /// The formulas in order.
     pub fn as_slice(&self) -> &[Fof]
         ensures formulas { result.now ≡ self.now }
-        ensures few { length self.now ≤ 65536 }
+        ensures few { length self.now ≤ MOST_FORMULAS }
         ensures may_stand { AllByRecursion FofMayStand self.now }
     {
         self.formulas.as_slice()
     }
 
-    /// Appends a formula that may stand in a problem, to fewer than 65,536. `Memory` is want of memory: the
+    /// Appends a formula that may stand in a problem, to fewer than `MOST_FORMULAS`. `Memory` is want of memory: the
     /// formula is given up, and the problem is as before.
     pub fn push(&mut self, fof: Fof) -> Result<(), Memory>
         requires may_stand { FofMayStand fof }
-        requires room { length self.old < 65536 }
+        requires room { length self.old < MOST_FORMULAS }
         ensures ok { OnOk result (self.new ≡ self.old ++ fof ∷ []) }
         ensures err { OnErr result (self.new ≡ self.old) }
     {

@@ -6,9 +6,9 @@ use Rattle.std.specs.Option.{option_map}
 use Rattle.std.specs.Str.{bytes_eq}
 use Rattle.std.proofs.Common.{ap, sym, ◌∙◌, inl, inr, subst, arith}
 use Rattle.std.proofs.lemmas.Option.{slice_get-map}
-use Rattle.logic_core.specs.Names.{Text}
-use Rattle.logic_core.specs.Lists.{SomeOf, IsAmong}
-use Rattle.logic_core.specs.Forms.{Tables}
+use Rattle.text_core.specs.Names.{Text}
+use Rattle.text_core.specs.Lists.{SomeOf, IsAmong}
+use Rattle.text_core.specs.Numbered.{Tables}
 use Rattle.logic_core.specs.declared.form.Atom.{Atom}
 use Rattle.logic_core.specs.declared.form.Form.{Form}
 use Rattle.logic_core.specs.declared.form.Slot.TheVariants.{Constant}

@@ -2,7 +2,7 @@
 use Rattle.std.specs.Prelude.{◌≡◌, if◌then◌else◌, Bool, true, false, List, [], ◌∷◌, ◌++◌, Some, None, refl, codes}
 use Rattle.std.specs.Str.{bytes_eq}
 use Rattle.std.proofs.Common.{ap, append_assoc, ◌∙◌}
-use Rattle.logic_core.specs.Names.{Text, is_lower, is_word_from}
+use Rattle.text_core.specs.Names.{Text, is_lower, is_word_from}
 use Rattle.proof_checker.specs.Reading.{Read, with_front, args_from, word_from, after}
 
 pub with_front-nil : {X : Type 0} (read : Read (List X)) → with_front [] read ≡ read

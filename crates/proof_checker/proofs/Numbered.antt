@@ -4,9 +4,9 @@ use Rattle.std.specs.List.{AllByRecursion}
 use Rattle.std.specs.Str.{bytes_eq}
 use Rattle.std.proofs.Common.{ap, sym, ◌∙◌, inl, inr, subst, arith}
 use Rattle.std.proofs.lemmas.Slice.Eq.{bytes_eq-Decides}
-use Rattle.logic_core.specs.Names.{Text}
-use Rattle.logic_core.specs.Lists.{IsAmong}
-use Rattle.logic_core.specs.Forms.{Symbol, Tables}
+use Rattle.text_core.specs.Names.{Text}
+use Rattle.text_core.specs.Lists.{IsAmong}
+use Rattle.text_core.specs.Numbered.{Symbol, Tables}
 use Rattle.logic_core.specs.declared.form.Atom.{Atom}
 use Rattle.logic_core.specs.declared.form.Slot.TheVariants.{Constant}
 use Rattle.proof_checker.specs.declared.ground.GroundAtom.{GroundAtom}

@@ -1,7 +1,7 @@
 -- Whole proofs: what is read is the one value that the texts spell.
 use Rattle.std.specs.Prelude.{◌≡◌, List, [], Option, Some, Result, Ok, Err, IfOk, IfErr, MatchResult, refl}
 use Rattle.std.proofs.Common.{ap, sym, ◌∙◌}
-use Rattle.logic_core.specs.Names.{Text}
+use Rattle.text_core.specs.Names.{Text}
 use Rattle.proof_checker.specs.declared.ground.CitedFact.{CitedFact}
 use Rattle.proof_checker.specs.Ground.{IsProofOf}
 use Rattle.proof_checker.specs.declared.words.NotRead.{NotRead}

@@ -5,7 +5,7 @@ use Rattle.std.specs.Option.{option_and_then}
 use Rattle.std.specs.Str.{bytes_eq}
 use Rattle.std.proofs.Common.{ap, sym, append_assoc, ◌∙◌, subst}
 use Rattle.std.proofs.lemmas.Slice.Eq.{bytes_eq-Decides}
-use Rattle.logic_core.specs.Names.{Text, is_lower, is_word_from}
+use Rattle.text_core.specs.Names.{Text, is_lower, is_word_from}
 use Rattle.proof_checker.specs.declared.ground.GroundAtom.{GroundAtom}
 use Rattle.proof_checker.specs.Ground.{IsWord, HasWords, listed, args_texts, atom_texts}
 use Rattle.proof_checker.specs.Reading.{Read, with_front, after, word_from, args_step, args_from, atom_with_args, atom_behind, atom_from}

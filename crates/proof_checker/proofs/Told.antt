@@ -1,7 +1,7 @@
 -- Bytes that are not read, or not accepted, are so for one cause.
 use Rattle.std.specs.Prelude.{◌≡◌, ◌≢◌, ◌⊎◌, ℕ, List, Result, Ok, Err, IfOk, IfErr, MatchResult, refl}
 use Rattle.std.proofs.Common.{ap, inl, inr, subst}
-use Rattle.logic_core.specs.Names.{Text}
+use Rattle.text_core.specs.Names.{Text}
 use Rattle.tptp_lexer.specs.Tokens.{Token, AreTokens, texts_of}
 use Rattle.tptp_lexer.proofs.Exact.{one_list, one_fault, never_both}
 use Rattle.proof_checker.specs.declared.ground.GroundFormula.{GroundFormula}

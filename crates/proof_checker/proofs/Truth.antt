@@ -4,10 +4,11 @@ use Rattle.std.specs.List.{AllByRecursion}
 use Rattle.std.specs.Str.{bytes_eq}
 use Rattle.std.proofs.Common.{ap, sym, ◌∙◌, inl, inr, subst, arith}
 use Rattle.std.proofs.lemmas.Option.{slice_get_within}
-use Rattle.logic_core.specs.Names.{Text}
-use Rattle.logic_core.specs.Lists.{SomeOf, IsAmong}
+use Rattle.text_core.specs.Names.{Text}
+use Rattle.text_core.specs.Lists.{SomeOf, IsAmong}
 use Rattle.logic_core.specs.Truth.{Structure, term_value, IsTrueIn}
-use Rattle.logic_core.specs.Forms.{SlotIsBelow, IsWellFormed, interpretation, holds_by_name, text_or_empty, slot_value, AtomTrue, AreElements, ConclusionTrue, FormTrue}
+use Rattle.logic_core.specs.Forms.{SlotIsBelow, IsWellFormed, interpretation, holds_by_name, slot_value, AtomTrue, AreElements, ConclusionTrue, FormTrue}
+use Rattle.text_core.specs.Numbered.{text_or_empty}
 use Rattle.logic_core.specs.Problems.{IfPremise, IfConjecture, Follows}
 use Rattle.logic_core.specs.declared.formula.Term.TheVariants.{Constant as ConstantTerm}
 use Rattle.logic_core.specs.declared.form.Form.{Form}

@@ -2,7 +2,7 @@
 -- "A Vernacular for Coherent Logic".
 use Rattle.std.specs.Prelude.{ℕ, ◌≡◌, ◌≢◌, List, [], ◌∷◌, take, slice_get, Some}
 use Rattle.std.specs.List.{AllByRecursion}
-use Rattle.logic_core.specs.Names.{Text}
+use Rattle.text_core.specs.Names.{Text}
 use Rattle.vernacular_tree.specs.declared.tree.Mp.{Mp}
 use Rattle.vernacular_tree.specs.declared.tree.Body.{Body}
 use Rattle.vernacular_tree.specs.declared.tree.End.{As}

@@ -2,7 +2,7 @@
 -- TPTP syntax; a proof is the text of values that it spells, which cite axioms, and it ends with the goal.
 use Rattle.std.specs.Prelude.{◌≤◌, ◌≡◌, Bool, true, false, if◌then◌else◌, List, [], ◌∷◌, ◌++◌, length, map, codes}
 use Rattle.std.specs.List.{AllByRecursion}
-use Rattle.logic_core.specs.Names.{Text, is_lower, is_word_from}
+use Rattle.text_core.specs.Names.{Text, is_lower, is_word_from}
 use Rattle.logic_core.specs.declared.formula.Term.TheVariants.{Constant}
 use Rattle.logic_core.specs.declared.formula.Formula.{Formula, Pred}
 use Rattle.logic_core.specs.declared.problem.Role.{Role}

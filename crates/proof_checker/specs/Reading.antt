@@ -2,7 +2,7 @@
 use Rattle.std.specs.Prelude.{ℕ, zero, suc, ◌≡◌, Bool, true, false, if◌then◌else◌, List, [], ◌∷◌, ◌++◌, Option, Some, None, Result, Ok, Err, codes}
 use Rattle.std.specs.Option.{option_and_then}
 use Rattle.std.specs.Str.{bytes_eq}
-use Rattle.logic_core.specs.Names.{Text, is_lower, is_word_from}
+use Rattle.text_core.specs.Names.{Text, is_lower, is_word_from}
 use Rattle.proof_checker.specs.declared.ground.GroundAtom.{GroundAtom}
 use Rattle.proof_checker.specs.declared.ground.CitedFact.{CitedFact}
 use Rattle.proof_checker.specs.declared.words.NotRead.{NotRead}

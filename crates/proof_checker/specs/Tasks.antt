@@ -1,8 +1,8 @@
 -- The task of a ground problem: its names as numbers, in order of first occurrence, and its atoms as coherent forms.
 use Rattle.std.specs.Prelude.{ℕ, suc, ◌==◌, max, Bool, true, ◌&&◌, if◌then◌else◌, List, [], ◌∷◌, ◌++◌, length, map}
 use Rattle.std.specs.Str.{bytes_eq}
-use Rattle.logic_core.specs.Names.{Text}
-use Rattle.logic_core.specs.Forms.{Symbol, Tables}
+use Rattle.text_core.specs.Names.{Text}
+use Rattle.text_core.specs.Numbered.{Symbol, Tables}
 use Rattle.logic_core.specs.declared.form.Slot.TheVariants.{Constant}
 use Rattle.logic_core.specs.declared.form.Atom.{Atom}
 use Rattle.logic_core.specs.declared.form.Form.{Form}

@@ -1,6 +1,6 @@
 -- Why bytes are not read: they have no tokens, or their tokens spell nothing that is wanted.
 use Rattle.std.specs.Prelude.{List}
-use Rattle.logic_core.specs.Names.{Text}
+use Rattle.text_core.specs.Names.{Text}
 use Rattle.tptp_lexer.specs.Tokens.{Token, AreTokens}
 use Rattle.tptp_lexer.specs.Refused.{LexFault}
 use Rattle.proof_checker.specs.declared.words.NotRead.{NotRead}

@@ -1,7 +1,7 @@
 ghost use Rattle.std.specs.Prelude.{◌≡◌, option_map};
 ghost use Rattle.std.specs.List.{list_all};
 ghost use Rattle.std.specs.Str.{bytes_eq};
-ghost use Rattle.logic_core.specs.Names as names;
+ghost use Rattle.text_core.specs.Names as names;
 ghost use Rattle.proof_checker.specs.Reading.{Gives, after, word_from};
 
 use logic_core::{Bytes, Memory};

@@ -4,8 +4,8 @@ use Rattle.std.proofs.lemmas.List.{map-append, length-append}
 use Rattle.std.specs.List.{AllByRecursion, IsDistinct, list_any, position_or_len}
 use Rattle.std.specs.Cmp.Lexicographic.{pointwise, bytes_decides, nat_list_eq_equiv}
 use Rattle.std.proofs.lemmas.Bool.Decides.{nat_tests}
-use Rattle.logic_core.specs.Names.{Text}
-use Rattle.logic_core.specs.Forms.{text_or_empty}
+use Rattle.text_core.specs.Names.{Text}
+use Rattle.text_core.specs.Numbered.{text_or_empty}
 use Rattle.std.specs.Option.{option_map}
 use Rattle.signature.proofs.Places.{position-seen, position_or_len-seen, list_any-seen}
 use Rattle.signature.specs.Numbers.{AreDistinctSymbols, is_symbol, symbol_number, found_symbol, with_symbol}

@@ -2,8 +2,8 @@
 use Rattle.std.specs.Prelude.{ℕ, ◌+◌, ◌^◌, ◌<◌, ◌≤◌, List, map, length, slice_get, nat_eq, Bool, ◌&&◌, [], ◌∷◌, ◌++◌, Option, position, if◌then◌else◌}
 use Rattle.std.specs.List.{AllByRecursion, IsDistinct, list_any, position_or_len}
 use Rattle.std.specs.Cmp.Lexicographic.{pointwise}
-use Rattle.logic_core.specs.Names.{Text}
-use Rattle.logic_core.specs.Forms.{Symbol, text_or_empty}
+use Rattle.text_core.specs.Names.{Text}
+use Rattle.text_core.specs.Numbered.{Symbol, text_or_empty}
 
 -- the number of a name, which comes after the last where it is not there
 abbrev pub name_number : List Text → Text → ℕ

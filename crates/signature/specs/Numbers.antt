@@ -3,8 +3,8 @@ use Rattle.std.specs.Prelude.{ℕ, ◌+◌, Bool, ◌&&◌, ◌==◌, nat_eq, Li
 use Rattle.std.specs.Option.{option_map}
 use Rattle.std.specs.List.{list_any, position_or_len, IsDistinct}
 use Rattle.std.specs.Cmp.Lexicographic.{pointwise}
-use Rattle.logic_core.specs.Names.{Text}
-use Rattle.logic_core.specs.Forms.{Symbol}
+use Rattle.text_core.specs.Names.{Text}
+use Rattle.text_core.specs.Numbered.{Symbol}
 
 -- whether a symbol has this name and this arity
 abbrev pub is_symbol : Text → ℕ → Symbol → Bool

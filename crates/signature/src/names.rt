@@ -4,7 +4,7 @@ ghost use Rattle.std.specs.Cmp.Lexicographic.{pointwise};
 ghost use Rattle.signature.specs.Columns.{name_number, found_name, with_name};
 
 use indexmap::IndexSet;
-use logic_core::{Memory, Name};
+use text_core::{Memory, Name};
 use std::alloc::Global;
 
 /// The number of a name, which goes last if it is new. `Memory` is want of memory, and the names are as before.

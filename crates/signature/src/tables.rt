@@ -4,7 +4,7 @@ ghost use Rattle.signature.specs.Numbers.{AreDistinctSymbols, AreDistinctConstan
 
 use crate::names;
 use indexmap::IndexSet;
-use logic_core::{Memory, Name};
+use text_core::{Memory, Name};
 use std::alloc::Global;
 use std::marker::Model;
 
@@ -20,7 +20,7 @@ pub struct Tables {
 }
 
 impl Model for Tables {
-    ghost use Rattle.logic_core.specs.Forms.{Tables as Numbering};
+    ghost use Rattle.text_core.specs.Numbered.{Tables as Numbering};
     ghost use Rattle.signature.specs.Columns.{symbols_in, AreTables};
 
     ghost Value = { Numbering };

@@ -1,5 +1,5 @@
 use crate::Tables;
-use logic_core::Name;
+use text_core::Name;
 use std::test::Fail;
 
 #[test]

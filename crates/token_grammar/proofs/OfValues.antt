@@ -1,7 +1,7 @@
 -- Each text has a value, and no more than one.
 use Rattle.std.proofs.Common.{◌≡◌, refl, sym, ◌∙◌, ap, subst, inl, inr, List, [], ◌∷◌, ◌++◌, append-nil}
 use Rattle.token_grammar.specs.Grammar.{Grammar, Spelled}
-use Rattle.logic_core.specs.Lists.{IsAmong}
+use Rattle.text_core.specs.Lists.{IsAmong}
 use Rattle.token_grammar.specs.Making.{Place, element, RowValues, Making}
 use Rattle.token_grammar.specs.Values.{SpellsRow, IsSpelling}
 

@@ -5,7 +5,7 @@ use Rattle.std.proofs.Math.Bool.{Bool-set}
 use Rattle.std.proofs.lemmas.Bool.{false≢true, and_parts, both_ways, not-true, or_left, or_right}
 use Rattle.std.proofs.lemmas.List.{append_cancel_left}
 use Rattle.token_grammar.specs.Grammar.{Grammar, Spelled}
-use Rattle.logic_core.specs.Lists.{IsAmong}
+use Rattle.text_core.specs.Lists.{IsAmong}
 use Rattle.token_grammar.specs.Taken.{Taken}
 use Rattle.token_grammar.specs.Taken.Taken.{stop, token, part}
 use Rattle.token_grammar.specs.Plan.{Plan, IsPredictive, is_first, one_less, is_empty, has_empty, all_nullable, rows_pass, asks, choice_passes, follow_passes}

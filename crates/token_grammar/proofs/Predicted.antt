@@ -3,7 +3,7 @@ use Rattle.std.proofs.Common.{◌≡◌, refl, sym, ap, subst, ℕ, zero, suc, �
 use Rattle.std.specs.Prelude.{Option, Some, None}
 use Rattle.std.proofs.lemmas.Bool.{true≢false, false≢true, and_parts, and_from, and_cases, or_cases, or_left, or_right, not-true, ltb-true, both_ways}
 use Rattle.token_grammar.specs.Grammar.{Grammar}
-use Rattle.logic_core.specs.Lists.{IsAmong}
+use Rattle.text_core.specs.Lists.{IsAmong}
 use Rattle.token_grammar.specs.Taken.{Taken}
 use Rattle.token_grammar.specs.Taken.Taken.{stop, token, part}
 use Rattle.token_grammar.specs.Plan.{Plan, IsPredictive, numbered, is_first, one_less, is_empty, has_empty, is_nullable, all_nullable, predicted, is_row, may_begin, row_begins, weight, rows_pass, follow_passes, asks, choice_passes}

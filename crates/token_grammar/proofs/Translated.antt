@@ -3,7 +3,7 @@ use Rattle.std.proofs.Common.{◌≡◌, refl, sym, ◌∙◌, ap, subst, Bool, 
 use Rattle.std.specs.Prelude.{IsFalse}
 use Rattle.std.proofs.lemmas.Bool.{true≢false}
 use Rattle.token_grammar.specs.Grammar.{Grammar, IsText, BeginsText}
-use Rattle.logic_core.specs.Lists.{IsAmong}
+use Rattle.text_core.specs.Lists.{IsAmong}
 use Rattle.token_grammar.specs.Taken.{Taken, MayLeave}
 use Rattle.token_grammar.specs.Taken.Taken.{stop, token, part}
 use Rattle.token_grammar.specs.Plan.{is_empty}

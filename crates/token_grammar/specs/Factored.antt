@@ -1,7 +1,7 @@
 -- When two grammars spell and begin the same tokens: each part of one stands for rows of the other.
 use Rattle.std.specs.Prelude.{◌⊎◌, List, [], ◌∷◌, ◌++◌, IsTrue, IsFalse}
 use Rattle.token_grammar.specs.Grammar.{Grammar, Spelled}
-use Rattle.logic_core.specs.Lists.{IsAmong}
+use Rattle.text_core.specs.Lists.{IsAmong}
 use Rattle.token_grammar.specs.Plan.{is_empty}
 
 -- each row with the first row before it

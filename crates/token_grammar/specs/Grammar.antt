@@ -1,7 +1,7 @@
 -- A grammar as data, the tokens that it spells, and the tokens that begin what it spells.
 -- Source: context-free grammars, with a test for each terminal in place of a set of tokens.
 use Rattle.std.specs.Prelude.{◌≡◌, Bool, List, [], ◌∷◌, ◌++◌, IsTrue}
-use Rattle.logic_core.specs.Lists.{IsAmong}
+use Rattle.text_core.specs.Lists.{IsAmong}
 
 -- a grammar over parts and tokens: a part takes a token that passes its test, or stands for one of its rows of parts
 pub record Grammar (P T : Type 0) : Type 0 where

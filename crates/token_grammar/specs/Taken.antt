@@ -1,7 +1,7 @@
 -- Which part took which token, read from left to right.
 use Rattle.std.specs.Prelude.{Bool, true, false, List, [], ◌∷◌, ◌++◌, IsTrue}
 use Rattle.token_grammar.specs.Grammar.{Grammar}
-use Rattle.logic_core.specs.Lists.{IsAmong}
+use Rattle.text_core.specs.Lists.{IsAmong}
 
 -- where the tokens end: a text leaves no part behind, the beginning of one may leave any
 abbrev pub MayLeave : {P : Type 0} → Bool → List P → Type 0

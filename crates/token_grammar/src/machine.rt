@@ -7,7 +7,7 @@ ghost use Rattle.token_grammar.specs.Answers.{IsAccepted, IsRefused};
 use crate::part::{Part, Step};
 use crate::refusal::Refusal;
 use crate::source::Source;
-use logic_core::Memory;
+use text_core::Memory;
 use std::alloc::Global;
 
 /// Reads the tokens, by number from 0, as a text of the part `start`, and shows the watcher each with the part that took it.

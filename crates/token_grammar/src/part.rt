@@ -4,7 +4,7 @@ ghost use Rattle.token_grammar.specs.Plan.{Plan, IsPredictive, is_nullable};
 ghost use Rattle.token_grammar.specs.Watch.{Watcher, IsDecided};
 ghost use Rattle.token_grammar.specs.Step.{Steps, IsExpand};
 
-use logic_core::Memory;
+use text_core::Memory;
 
 /// What the machine does with the part on top of its stack at a token.
 #[derive(Debug, Drop)]

@@ -1,4 +1,4 @@
-use logic_core::Memory;
+use text_core::Memory;
 
 /// Why the tokens are no text. `P` is the grammar's part and `F` its watcher's fault; a place is a token's number from 0.
 #[derive(Debug, Drop)]

@@ -3,7 +3,7 @@ use Rattle.std.specs.Prelude.{◌≡◌, false, List, [], ◌∷◌, IsTrue}
 use Rattle.std.proofs.Common.{refl, inl, inr}
 use Rattle.std.proofs.lemmas.Bool.{false≢true}
 use Rattle.token_grammar.specs.Grammar.{Spelled}
-use Rattle.logic_core.specs.Lists.{IsAmong}
+use Rattle.text_core.specs.Lists.{IsAmong}
 use Rattle.token_grammar.specs.Plan.{is_empty}
 use Rattle.token_grammar.specs.Factored.{Translates, AlternativesAreMade}
 use Rattle.token_grammar.specs.Factored.Becomes.{done, keep, replace}

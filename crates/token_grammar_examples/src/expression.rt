@@ -7,7 +7,7 @@ ghost use Rattle.token_grammar.specs.Grammar.{IsText};
 ghost use Rattle.token_grammar_examples.specs.Printed.{printed_expressions, IsNoExpression};
 ghost use Rattle.token_grammar_examples.specs.Printed.Printed.{expression as printed_expression};
 
-use logic_core::Memory;
+use text_core::Memory;
 use std::alloc::Global;
 use std::convert::Infallible;
 use token_grammar::{

@@ -5,7 +5,7 @@ ghost use Rattle.token_grammar.specs.Answers.{IsAccepted, IsRefused};
 ghost use Rattle.token_grammar_examples.specs.Outline.{CountsMark, outlines, outline_watcher};
 ghost use Rattle.token_grammar_examples.specs.declared.outline.Symbol.TheVariants.{Entries};
 
-use logic_core::Memory;
+use text_core::Memory;
 use std::alloc::Global;
 use token_grammar::{Part, Refusal, Step, expand, recognize};
 

@@ -2,14 +2,14 @@
 use Rattle.std.specs.Prelude.{◌≡◌, List, [], length, true, Some, None}
 use Rattle.std.specs.List.{AllByRecursion}
 use Rattle.std.proofs.Common.{inl, inr, refl, sym, ◌∙◌, ap, subst}
-use Rattle.logic_core.specs.Names.{Text}
+use Rattle.text_core.specs.Names.{Text}
 use Rattle.logic_core.specs.declared.problem.Item.{Item}
 use Rattle.token_grammar.specs.Answers.{IsClean}
 use Rattle.token_grammar.specs.Watch.{Sees}
 use Rattle.token_grammar.proofs.Agreement.{one_taking_of_text}
 use Rattle.token_grammar.proofs.Spelling.{spelled_taken}
 use Rattle.tptp_lexer.specs.Tokens.{Token, Lexed, AreTokens}
-use Rattle.tptp_grammar.specs.declared.limit.TheConstants.{MOST_LEVELS}
+use Rattle.text_core.specs.declared.limits.TheConstants.{MOST_LEVELS}
 use Rattle.tptp_grammar.specs.declared.refusal.SyntaxRefusal.{SyntaxRefusal}
 use Rattle.tptp_grammar.specs.declared.refusal.SyntaxRefusal.TheVariants as refusals
 use Rattle.tptp_grammar.specs.declared.symbol.Symbol.{Symbol}

@@ -1,6 +1,6 @@
 -- A part whose alternative was pushed has done its step.
 use Rattle.std.proofs.Common.{◌≡◌, List, Some, Result, Ok, Err, IfOk}
-use Rattle.logic_core.specs.declared.memory.Memory as Memory
+use Rattle.text_core.specs.declared.memory.Memory as Memory
 use Rattle.token_grammar.specs.Plan.{predicted}
 use Rattle.token_grammar.specs.Step.{IsExpand}
 use Rattle.token_grammar.specs.declared.part.Step as Step

@@ -1,7 +1,7 @@
 -- What is spelled has what its parts have: a part that takes tokens has a property of its token, any other one of its tokens.
 use Rattle.std.specs.Prelude.{◌≡◌, List, [], ◌∷◌, ◌++◌, IsTrue}
 use Rattle.std.proofs.Common.{refl, sym, ◌∙◌, ap, subst, inl, inr, append-nil}
-use Rattle.logic_core.specs.Lists.{IsAmong}
+use Rattle.text_core.specs.Lists.{IsAmong}
 use Rattle.token_grammar.specs.Grammar.{Grammar, Spelled}
 
 -- the property of a part: of its one token, or of all its tokens

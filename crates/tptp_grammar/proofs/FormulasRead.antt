@@ -9,7 +9,7 @@ use Rattle.logic_core.specs.declared.formula.Formula.{Formula, And, Or, Binary}
 use Rattle.tptp_lexer.specs.declared.kind.Kind.{Kind}
 use Rattle.tptp_lexer.specs.declared.kind.Kind.TheVariants as kind
 use Rattle.tptp_lexer.specs.Tokens.{Token}
-use Rattle.tptp_grammar.specs.declared.limit.TheConstants.{MOST_LEVELS}
+use Rattle.text_core.specs.declared.limits.TheConstants.{MOST_LEVELS}
 use Rattle.tptp_grammar.specs.Reading.{Read, behind, reread, more_from, rest_at, rest_from, below_at, inside_at, unit_at, formula_at}
 use Rattle.tptp_grammar.specs.Spells.{op_kind, SpellsFormula, SpellsRest, SpellsUnitary}
 use Rattle.tptp_grammar.specs.Spells.SpellsFormula.{alone, conjunction, disjunction, binary}

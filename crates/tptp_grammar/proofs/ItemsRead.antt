@@ -3,7 +3,7 @@ use Rattle.std.specs.Prelude.{◌≡◌, ◌≤◌, ◌+◌, ℕ, zero, suc, Lis
 use Rattle.std.specs.Option.{option_and_then}
 use Rattle.std.specs.Str.{bytes_eq}
 use Rattle.std.proofs.Common.{ap, sym, ◌∙◌, append_assoc, arith}
-use Rattle.logic_core.specs.Names.{Text}
+use Rattle.text_core.specs.Names.{Text}
 use Rattle.logic_core.specs.declared.formula.Formula.{Formula}
 use Rattle.logic_core.specs.declared.problem.Role.{Role}
 use Rattle.logic_core.specs.declared.problem.Role.TheVariants.{Axiom}
@@ -13,7 +13,7 @@ use Rattle.logic_core.specs.declared.problem.Item.TheVariants.{Fof as ItemFof, I
 use Rattle.tptp_lexer.specs.declared.kind.Kind.TheVariants as kind
 use Rattle.tptp_lexer.specs.Tokens.{Token, name_of}
 use Rattle.tptp_grammar.specs.declared.cursor.Naming.TheVariants as naming
-use Rattle.tptp_grammar.specs.declared.limit.TheConstants.{MOST_LEVELS}
+use Rattle.text_core.specs.declared.limits.TheConstants.{MOST_LEVELS}
 use Rattle.tptp_grammar.specs.Marks.{role_text, role_of}
 use Rattle.tptp_grammar.specs.Reading.{Read, behind, reread, name_from, behind_dot, ended, role_from, formula_at, fof_behind, fof_from, selection_from, include_behind, include_from, item_from, items_from}
 use Rattle.tptp_grammar.specs.Spells.{IsAnnotation, SpellsSelection, SpellsInclude, SpellsItem, SpellsItems}

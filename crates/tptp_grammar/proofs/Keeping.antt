@@ -7,7 +7,7 @@ use Rattle.token_grammar.specs.Taken.{Taken}
 use Rattle.token_grammar.specs.Watch.{Sees}
 use Rattle.token_grammar.proofs.Spelling.{spelled_taken}
 use Rattle.tptp_lexer.specs.Tokens.{Token}
-use Rattle.tptp_grammar.specs.declared.limit.TheConstants.{MOST_LEVELS}
+use Rattle.text_core.specs.declared.limits.TheConstants.{MOST_LEVELS}
 use Rattle.tptp_grammar.specs.declared.limit.Limit.TheVariants.{TooDeep}
 use Rattle.tptp_grammar.specs.declared.mark.Mark.{Mark}
 use Rattle.tptp_grammar.specs.declared.mark.Mark.TheVariants.{Role}

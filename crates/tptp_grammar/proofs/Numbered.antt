@@ -2,8 +2,8 @@
 use Rattle.std.specs.Prelude.{◌≡◌, ◌+◌, Bool, true, false, not, cond, List, [], ◌∷◌, bytes_eq}
 use Rattle.std.proofs.Common.{refl, sym, ◌∙◌, ap, inl, inr, arith}
 use Rattle.std.proofs.lemmas.Slice.Eq.{bytes_eq-Decides}
-use Rattle.logic_core.specs.Lists.{IsAmong}
-use Rattle.logic_core.specs.Names.{Text}
+use Rattle.text_core.specs.Lists.{IsAmong}
+use Rattle.text_core.specs.Names.{Text}
 use Rattle.tptp_lexer.specs.Tokens.{Token}
 use Rattle.tptp_grammar.specs.Marks.{number_of}
 

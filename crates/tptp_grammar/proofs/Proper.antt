@@ -1,7 +1,7 @@
 -- The text of each token is of its kind.
 use Rattle.std.specs.Prelude.{◌≡◌, ℕ, List, Some}
 use Rattle.std.specs.List.{AllByRecursion}
-use Rattle.logic_core.specs.Names.{Text}
+use Rattle.text_core.specs.Names.{Text}
 use Rattle.tptp_lexer.specs.Kinds.{kind_of}
 use Rattle.tptp_lexer.specs.Tokens.{Token, Reads, AreTokens, IsEnd, stop, blank, comment, token}
 

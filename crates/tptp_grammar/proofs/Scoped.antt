@@ -2,8 +2,8 @@
 use Rattle.std.specs.Prelude.{◌≡◌, ℕ, true, false, List, [], ◌∷◌, ◌++◌, codes}
 use Rattle.std.specs.List.{AllByRecursion}
 use Rattle.std.proofs.Common.{refl, sym, ◌∙◌, inl, inr, subst, append-nil}
-use Rattle.logic_core.specs.Lists.{IsAmong}
-use Rattle.logic_core.specs.Names.{Text}
+use Rattle.text_core.specs.Lists.{IsAmong}
+use Rattle.text_core.specs.Names.{Text}
 use Rattle.logic_core.specs.Openings.{row_of, Not_opens, And_opens, Or_opens, Binary_opens, ForAll_opens, Exists_opens}
 use Rattle.logic_core.specs.Problems.{TermIsBound, IsBoundIn, EachIsBoundIn, TwoOrMore}
 use Rattle.logic_core.specs.declared.formula.Term.{Term}

@@ -2,8 +2,8 @@
 use Rattle.std.specs.Prelude.{◌≡◌, ◌+◌, ◌||◌, ◌&&◌, ◌⊎◌, ℕ, Bool, true, false, if◌then◌else◌, nat_le, List, [], ◌∷◌, Result, Ok, Err, Option, Some, None, IsTrue, codes, bytes_eq}
 use Rattle.std.specs.List.{list_any}
 use Rattle.std.proofs.Common.{refl, sym, ◌∙◌, ap, inl, inr, subst, arith}
-use Rattle.logic_core.specs.Lists.{IsAmong}
-use Rattle.logic_core.specs.Names.{Text, is_upper_word}
+use Rattle.text_core.specs.Lists.{IsAmong}
+use Rattle.text_core.specs.Names.{Text, is_upper_word}
 use Rattle.logic_core.specs.declared.formula.Op.{Op}
 use Rattle.logic_core.specs.declared.formula.Op.TheVariants as op
 use Rattle.logic_core.specs.declared.problem.Role.{Role}

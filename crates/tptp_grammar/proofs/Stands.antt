@@ -2,7 +2,7 @@
 use Rattle.std.specs.Prelude.{◌≡◌, ℕ, ◌+◌, ◌≤◌, max, List, [], ◌∷◌, Option, Some, None}
 use Rattle.std.proofs.Common.{refl, ap, arith}
 use Rattle.std.specs.List.{AllByRecursion}
-use Rattle.logic_core.specs.Names.{Text}
+use Rattle.text_core.specs.Names.{Text}
 use Rattle.logic_core.specs.Nesting.{depth, greatest_depth, nesting}
 use Rattle.logic_core.specs.Openings.{row_of, Not_opens, And_opens, Or_opens, Binary_opens, Exists_opens, depth-ForAll}
 use Rattle.logic_core.specs.Problems.{ItemMayStand}

@@ -3,7 +3,7 @@ use Rattle.std.specs.Prelude.{◌≡◌, ℕ, ◌+◌, ◌<◌, ◌≤◌, true,
 use Rattle.std.proofs.Common.{refl, sym, ap, subst, inl, inr, append_assoc, append-nil, arith}
 use Rattle.token_grammar.specs.Taken.{Taken}
 use Rattle.token_grammar.specs.Watch.{Sees}
-use Rattle.logic_core.specs.Names.{Text}
+use Rattle.text_core.specs.Names.{Text}
 use Rattle.logic_core.specs.declared.formula.Term.{Term}
 use Rattle.logic_core.specs.declared.formula.Term.TheVariants.{Variable, Constant}
 use Rattle.logic_core.specs.declared.formula.Formula.{Formula, True, False, Pred, Equal, Not, And, Or, Binary, ForAll, Exists}
@@ -13,7 +13,7 @@ use Rattle.logic_core.specs.declared.problem.Item.TheVariants.{Fof as ItemFof, I
 use Rattle.tptp_lexer.specs.declared.kind.Kind.{Kind}
 use Rattle.tptp_lexer.specs.declared.kind.Kind.TheVariants as kind
 use Rattle.tptp_lexer.specs.Tokens.{Token, name_of}
-use Rattle.tptp_grammar.specs.declared.limit.TheConstants.{MOST_LEVELS}
+use Rattle.text_core.specs.declared.limits.TheConstants.{MOST_LEVELS}
 use Rattle.tptp_grammar.specs.declared.symbol.Symbol.{Symbol}
 use Rattle.tptp_grammar.specs.declared.symbol.Symbol.TheVariants as symbol
 use Rattle.tptp_grammar.specs.Symbols.{alternatives, fof_items}

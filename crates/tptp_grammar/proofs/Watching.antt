@@ -2,8 +2,8 @@
 use Rattle.std.specs.Prelude.{◌≡◌, ◌≤◌, ◌<◌, ◌+◌, ◌-◌, ◌↔◌, ℕ, true, false, nat_lt, List, [], ◌∷◌, ◌++◌, map, Result, Ok, Some, IsTrue}
 use Rattle.std.proofs.Common.{refl, sym, ◌∙◌, ap, inl, inr, subst, arith, append-nil, le_refl}
 use Rattle.std.proofs.lemmas.List.{map-append}
-use Rattle.logic_core.specs.Lists.{IsAmong}
-use Rattle.logic_core.specs.Names.{Text}
+use Rattle.text_core.specs.Lists.{IsAmong}
+use Rattle.text_core.specs.Names.{Text}
 use Rattle.token_grammar.specs.Taken.{Taken}
 use Rattle.token_grammar.specs.Taken.Taken.{stop, token, part}
 use Rattle.token_grammar.specs.Watch.{Sees}
@@ -11,7 +11,7 @@ use Rattle.token_grammar.proofs.Spelling.{joined as joined_taken}
 use Rattle.tptp_lexer.specs.declared.kind.Kind.{Kind}
 use Rattle.tptp_lexer.specs.Tokens.{Token}
 use Rattle.tptp_lexer.specs.Kinds.{kind_of}
-use Rattle.tptp_grammar.specs.declared.limit.TheConstants.{MOST_LEVELS}
+use Rattle.text_core.specs.declared.limits.TheConstants.{MOST_LEVELS}
 use Rattle.tptp_grammar.specs.declared.limit.Limit.{Limit}
 use Rattle.tptp_grammar.specs.declared.symbol.Symbol.{Symbol}
 use Rattle.tptp_grammar.specs.declared.symbol.Symbol.TheVariants as symbol

@@ -3,7 +3,7 @@
 use Rattle.std.specs.Prelude.{◌≡◌, ℕ, ◌-◌, nat_le, nat_lt, ◌==◌, Bool, List, ◌∷◌, filter, Result, Ok, Err, if◌then◌else◌}
 use Rattle.std.specs.List.{list_any}
 use Rattle.token_grammar.specs.Watch.{Watcher, watcher_of}
-use Rattle.tptp_grammar.specs.declared.limit.TheConstants.{MOST_LEVELS}
+use Rattle.text_core.specs.declared.limits.TheConstants.{MOST_LEVELS}
 use Rattle.tptp_grammar.specs.declared.limit.Limit as Limit
 use Rattle.tptp_grammar.specs.declared.limit.Limit.TheVariants.{TooDeep, UnknownRole, FreeVariable}
 use Rattle.tptp_grammar.specs.declared.scopes.Binding as Binding

@@ -4,7 +4,7 @@ use Rattle.std.specs.Prelude.{◌≡◌, ℕ, zero, suc, Bool, true, false, List
 use Rattle.std.specs.Option.{option_and_then}
 use Rattle.std.specs.Str.{bytes_eq}
 use Rattle.std.specs.List.{AllByRecursion}
-use Rattle.logic_core.specs.Names.{Text}
+use Rattle.text_core.specs.Names.{Text}
 use Rattle.logic_core.specs.Problems.{ItemMayStand}
 use Rattle.logic_core.specs.declared.formula.Term.{Term}
 use Rattle.logic_core.specs.declared.formula.Term.TheVariants.{Variable, Constant}
@@ -17,7 +17,7 @@ use Rattle.logic_core.specs.declared.problem.Item.TheVariants.{Fof as ItemFof, I
 use Rattle.tptp_lexer.specs.declared.kind.Kind.{Kind}
 use Rattle.tptp_lexer.specs.declared.kind.Kind.TheVariants as kind
 use Rattle.tptp_lexer.specs.Tokens.{Token, name_of}
-use Rattle.tptp_grammar.specs.declared.limit.TheConstants.{MOST_LEVELS}
+use Rattle.text_core.specs.declared.limits.TheConstants.{MOST_LEVELS}
 use Rattle.tptp_grammar.specs.declared.cursor.Naming.{Naming}
 use Rattle.tptp_grammar.specs.declared.cursor.Naming.TheVariants as naming
 use Rattle.tptp_grammar.specs.declared.cursor.NotRead.{NotRead}

@@ -1,7 +1,7 @@
 -- What the tokens of a problem's text spell, by cases on the value. Round brackets around a formula and annotations leave no trace
 -- in it. A level counts the brackets, negations and quantifiers that are open; at most 200 may be. Source: the TPTP syntax, FOF.
 use Rattle.std.specs.Prelude.{ℕ, ◌+◌, ◌<◌, ◌≡◌, ◌⊎◌, List, [], ◌∷◌, ◌++◌, Option, Some, None, codes}
-use Rattle.logic_core.specs.Names.{Text}
+use Rattle.text_core.specs.Names.{Text}
 use Rattle.logic_core.specs.declared.formula.Term.{Term}
 use Rattle.logic_core.specs.declared.formula.Term.TheVariants.{Variable, Constant}
 use Rattle.logic_core.specs.declared.formula.Op.{Op}
@@ -13,7 +13,7 @@ use Rattle.logic_core.specs.declared.problem.Item.TheVariants.{Fof as ItemFof, I
 use Rattle.tptp_lexer.specs.declared.kind.Kind.{Kind}
 use Rattle.tptp_lexer.specs.declared.kind.Kind.TheVariants as kind
 use Rattle.tptp_lexer.specs.Tokens.{Token, name_of}
-use Rattle.tptp_grammar.specs.declared.limit.TheConstants.{MOST_LEVELS}
+use Rattle.text_core.specs.declared.limits.TheConstants.{MOST_LEVELS}
 use Rattle.tptp_grammar.specs.Marks.{role_text}
 
 -- a lower word or a quoted one

@@ -1,6 +1,6 @@
 -- What the code of a part does at a token.
 use Rattle.std.specs.Prelude.{List, Result, IfOk}
-use Rattle.logic_core.specs.declared.memory.Memory as Memory
+use Rattle.text_core.specs.declared.memory.Memory as Memory
 use Rattle.token_grammar.specs.declared.part.Step as Step
 use Rattle.token_grammar.specs.Step.{Steps}
 use Rattle.tptp_grammar.specs.declared.mark.Mark as Mark

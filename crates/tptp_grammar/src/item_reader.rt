@@ -4,11 +4,11 @@ ghost use Rattle.tptp_grammar.specs.Reading.{Gives, behind, behind_dot, role_fro
 
 use crate::cursor::{Naming, NotRead, behind, is_same, name, skip};
 use crate::formula_reader::formula;
-use crate::limit::MOST_LEVELS;
 use crate::reader::names;
 use crate::role::role_of;
 use logic_core::{Fof, Item, Items, List, Name, Role};
 use std::alloc::Global;
+use text_core::MOST_LEVELS;
 use tptp_lexer::{Cursor, Kind, Tokens};
 
 /// What is left behind the first dot.

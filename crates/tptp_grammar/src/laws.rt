@@ -1,5 +1,5 @@
 ghost use Rattle.std.specs.Prelude.{◌≡◌, ◌↔◌, List};
-ghost use Rattle.logic_core.specs.Names.{Text};
+ghost use Rattle.text_core.specs.Names.{Text};
 ghost use Rattle.logic_core.specs.declared.problem.Item.{Item};
 ghost use Rattle.token_grammar.specs.Grammar.{IsText, BeginsText};
 ghost use Rattle.tptp_lexer.specs.Tokens.{Token, Lexed};

@@ -23,7 +23,7 @@ mod tests;
 
 pub use items::read_items;
 pub use laws::{items_are_one, never_items_and_refusal, printed_agrees, refusals_are_one};
-pub use limit::{Limit, MOST_LEVELS};
+pub use limit::Limit;
 pub use mark::Mark;
 pub use printing::Printing;
 pub use refusal::SyntaxRefusal;

@@ -8,6 +8,3 @@ pub enum Limit {
     /// It is a variable in a term that no quantifier binds.
     FreeVariable,
 }
-
-/// The greatest level that a token may open.
-pub const MOST_LEVELS: u32 = 200;

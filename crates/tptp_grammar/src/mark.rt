@@ -1,6 +1,6 @@
 ghost use Rattle.std.specs.Prelude.{◌≡◌, ◌+◌, ◌<◌, List, Some, length, slice_get, take, unwrap_or, IfOk, OnOk, if◌then◌else◌};
 ghost use Rattle.std.specs.Str.{bytes_eq};
-ghost use Rattle.logic_core.specs.Names.{Text};
+ghost use Rattle.text_core.specs.Names.{Text};
 ghost use Rattle.tptp_lexer.specs.declared.kind.Kind.TheVariants.{Upper};
 ghost use Rattle.tptp_lexer.specs.Tokens.{Token};
 ghost use Rattle.tptp_grammar.specs.Marks.{lower_mark, dollar_mark, marked, marks_of};

@@ -2,10 +2,11 @@ ghost use Rattle.std.specs.Prelude.{◌≡◌, [], ◌∷◌, OnOk, OnErr};
 ghost use Rattle.tptp_grammar.specs.Limits.{IsLook, open_at, opened, used};
 
 use crate::counted::Counted;
-use crate::limit::{Limit, MOST_LEVELS};
+use crate::limit::Limit;
 use logic_core::Memory;
 use std::alloc::Global;
 use std::marker::Model;
+use text_core::MOST_LEVELS;
 
 /// A variable that a quantifier binds: the level that the quantifier opened, and the variable's number.
 #[derive(Clone, Copy, Debug)]

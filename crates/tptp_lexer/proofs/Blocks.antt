@@ -1,7 +1,7 @@
 -- Where the first `*/` stands, as a whole.
 use Rattle.std.proofs.Common.{◌≡◌, ℕ, ◌+◌, ◌==◌, Bool, true, false, not, ◌&&◌, [], ◌∷◌, ◌++◌, length, refl, ap, ◌∙◌, arith, Option, Some, None, option_map}
 use Rattle.std.proofs.lemmas.Bool.{eqb-true}
-use Rattle.logic_core.specs.Names.{Text}
+use Rattle.text_core.specs.Names.{Text}
 use Rattle.tptp_lexer.specs.Kinds.{begins_with}
 use Rattle.tptp_lexer.specs.Tokens.{is_unclosed}
 use Rattle.tptp_lexer.specs.Scanning.{block_end}

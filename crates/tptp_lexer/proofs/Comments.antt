@@ -2,7 +2,7 @@
 use Rattle.std.proofs.Common.{◌≡◌, ℕ, ◌+◌, ◌==◌, ◌&&◌, ◌<◌, ◌≤◌, true, false, [], ◌∷◌, length, drop, get_or, refl, sym, ap, arith, add_assoc, zero-add, Option, Some, None, option_map, length-drop}
 use Rattle.std.proofs.Math.Bool.{and-false}
 use Rattle.std.proofs.lemmas.List.{drop_more}
-use Rattle.logic_core.specs.Names.{Text}
+use Rattle.text_core.specs.Names.{Text}
 use Rattle.tptp_lexer.specs.Kinds.{begins_with}
 use Rattle.tptp_lexer.specs.Scanning.{block_end}
 

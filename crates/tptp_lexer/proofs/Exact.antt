@@ -1,6 +1,6 @@
 -- The tokens and the first refused place exclude each other, and there is one of each at most.
 use Rattle.std.proofs.Common.{◌≡◌, ◌⊎◌, inl, inr, List, length, refl, arith, Some, None}
-use Rattle.logic_core.specs.Names.{Text}
+use Rattle.text_core.specs.Names.{Text}
 use Rattle.tptp_lexer.specs.declared.refusal.LexRefusal.{LexRefusal}
 use Rattle.tptp_lexer.specs.declared.refusal.LexRefusal.TheVariants as refusal
 use Rattle.tptp_lexer.specs.Tokens.{Token, AreTokens}

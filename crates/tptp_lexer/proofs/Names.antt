@@ -7,7 +7,7 @@ use borrow.Author.Tests.{ltb-true, lt-ltb}
 use Rattle.std.proofs.lemmas.Bool.Decides.{nat_tests}
 use Rattle.std.proofs.lemmas.List.{drop_more}
 use Rattle.std.proofs.lemmas.Slice.Eq.{bytes_eq-Decides}
-use Rattle.logic_core.specs.Names.{Text, IsPrintable, IsNameText}
+use Rattle.text_core.specs.Names.{Text, IsPrintable, IsNameText}
 use Rattle.tptp_lexer.specs.declared.kind.Kind.{Kind}
 use Rattle.tptp_lexer.specs.declared.kind.Kind.TheVariants.{Quoted}
 use Rattle.tptp_lexer.specs.Kinds.{kind_of, kind_among, kinds, is_lower, is_upper, is_digit, is_word, is_word_from, is_natural, is_integer, is_quoted, is_quoted_word, is_body, is_escapable, is_printable, inside}

@@ -1,7 +1,7 @@
 -- Tokens stand in order, each a part of its source.
 use Rattle.std.proofs.Common.{◌≡◌, ℕ, ◌+◌, ◌-◌, ◌≤◌, List, [], ◌∷◌, ◌++◌, length, take, drop, refl, ap, sym, ◌∙◌, arith}
 use Rattle.std.proofs.lemmas.List.{take_at, drop_at, drop-drop}
-use Rattle.logic_core.specs.Names.{Text}
+use Rattle.text_core.specs.Names.{Text}
 use Rattle.tptp_lexer.specs.Tokens.{Token, Reads, stop, blank, comment, token, IsEnd, AreTokens, AreInOrder}
 
 -- what is left behind a front

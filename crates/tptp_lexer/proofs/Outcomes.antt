@@ -1,6 +1,6 @@
 -- How the reading of a text ends, by the pieces at its places.
 use Rattle.std.proofs.Common.{◌≡◌, ℕ, ◌+◌, inl, inr, ap, sym, ◌∙◌, arith, Option, Some, None}
-use Rattle.logic_core.specs.Names.{Text}
+use Rattle.text_core.specs.Names.{Text}
 use Rattle.tptp_lexer.specs.declared.piece.Piece.{Piece}
 use Rattle.tptp_lexer.specs.declared.piece.Piece.TheVariants as piece
 use Rattle.tptp_lexer.specs.declared.refusal.LexRefusal.{LexRefusal}

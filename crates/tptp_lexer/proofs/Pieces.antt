@@ -1,7 +1,7 @@
 -- What the scanner's function answers for any bytes is what stands at their front.
 use Rattle.std.proofs.Common.{◌≡◌, ℕ, ◌==◌, inl, Bool, true, false, ◌||◌, [], ◌∷◌, refl, sym, subst}
 use Rattle.std.proofs.lemmas.Bool.{eqb-true}
-use Rattle.logic_core.specs.Names.{Text}
+use Rattle.text_core.specs.Names.{Text}
 use Rattle.tptp_lexer.specs.declared.kind.Kind.TheVariants.{Lower, Upper}
 use Rattle.tptp_lexer.specs.declared.piece.Piece.{Piece}
 use Rattle.tptp_lexer.specs.Kinds.{is_lower, is_upper, is_digit, is_word}

@@ -1,7 +1,7 @@
 -- The bytes have one reading.
 use Rattle.std.proofs.Common.{◌≡◌, ℕ, ◌+◌, List, [], ◌∷◌, length, take, drop, refl, ap, sym, ◌∙◌, subst, Option, Some}
 use Rattle.std.proofs.lemmas.List.{take_at, drop_at}
-use Rattle.logic_core.specs.Names.{Text}
+use Rattle.text_core.specs.Names.{Text}
 use Rattle.tptp_lexer.specs.declared.piece.Piece.{Piece}
 use Rattle.tptp_lexer.specs.declared.piece.Piece.TheVariants as piece
 use Rattle.tptp_lexer.specs.declared.refusal.LexRefusal.{LexRefusal}

@@ -2,7 +2,7 @@
 use Rattle.std.proofs.Common.{◌≡◌, ℕ, ◌+◌, ◌==◌, inl, inr, Bool, true, false, not, cond, ◌&&◌, [], ◌∷◌, ◌++◌, refl, ap, sym, ◌∙◌, subst, arith, Option, Some, None, append_assoc, length-append}
 use Rattle.std.specs.List.{list_all, prefix_len}
 use Rattle.std.proofs.lemmas.Bool.{eqb-true}
-use Rattle.logic_core.specs.Names.{Text}
+use Rattle.text_core.specs.Names.{Text}
 use Rattle.tptp_lexer.specs.declared.kind.Kind.TheVariants.{Integer, Dollar}
 use Rattle.tptp_lexer.specs.Kinds.{kind_of, is_lower, is_digit, is_word, is_natural}
 use Rattle.tptp_lexer.specs.Tokens.{is_blank, is_end_of_line}

@@ -1,19 +1,10 @@
 -- The token table: which texts are tokens, and of which kind. After the TPTP syntax.
 use Rattle.std.specs.Prelude.{ℕ, ◌-◌, nat_le, ◌==◌, Bool, true, false, not, ◌&&◌, ◌||◌, if◌then◌else◌, List, [], ◌∷◌, ◌++◌, length, take, drop, Option, Some, None, codes, bytes_eq}
 use Rattle.std.specs.List.{list_all}
-use Rattle.logic_core.specs.Names.{Text}
-pub use Rattle.logic_core.specs.Names.{is_lower, is_upper, is_digit, is_word, is_word_from}
+use Rattle.text_core.specs.Names.{Text}
+pub use Rattle.text_core.specs.Names.{is_lower, is_upper, is_digit, is_word, is_word_from, is_printable, begins_with}
 use Rattle.tptp_lexer.specs.declared.kind.Kind.{Kind}
 use Rattle.tptp_lexer.specs.declared.kind.Kind.TheVariants.{Lower, Upper, Quoted, Distinct, Integer, Dollar, OpenParenthesis, CloseParenthesis, OpenBracket, CloseBracket, Comma, Dot, Colon, Exclamation, Question, Tilde, Ampersand, Bar, Implies, Implied, Iff, Xor, Nor, Nand, Equal, NotEqual}
-
--- the bytes begin with this byte
-abbrev pub begins_with : ℕ → Text → Bool
-begins_with b [] = false
-begins_with b (c ∷ cs) = c == b
-
--- printable ASCII
-abbrev pub is_printable : ℕ → Bool
-is_printable b = nat_le 32 b && nat_le b 126
 
 -- a byte that stands for itself between quotes q: printable, and neither q nor the backslash (92)
 abbrev pub is_plain : ℕ → ℕ → Bool

@@ -1,6 +1,6 @@
 -- The first place of a text that is refused, where the text has no tokens.
 use Rattle.std.specs.Prelude.{◌≡◌, ℕ, ◌+◌, ◌==◌, Bool, true, false, not, ◌&&◌, ◌||◌, List, [], ◌∷◌, ◌++◌, length, Option, Some, None, ◌⊎◌, ⊤}
-use Rattle.logic_core.specs.Names.{Text}
+use Rattle.text_core.specs.Names.{Text}
 use Rattle.tptp_lexer.specs.declared.refusal.LexRefusal.{LexRefusal}
 use Rattle.tptp_lexer.specs.declared.refusal.LexRefusal.TheVariants.{BadByte, OpenQuote, OpenComment, EmptyQuote, Memory}
 use Rattle.tptp_lexer.specs.Kinds.{kind_of, is_body, is_escapable, is_printable, begins_with}

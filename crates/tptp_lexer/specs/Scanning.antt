@@ -1,7 +1,7 @@
 -- What the scanner's functions answer for the bytes at a front. No public contract speaks of these.
 use Rattle.std.specs.Prelude.{ℕ, ◌+◌, ◌==◌, ◌<◌, Bool, not, ◌&&◌, ◌||◌, if◌then◌else◌, [], ◌∷◌, length, slice_index, nat_lt, Option, Some, None, option_map}
 use Rattle.std.specs.List.{prefix_len}
-use Rattle.logic_core.specs.Names.{Text}
+use Rattle.text_core.specs.Names.{Text}
 use Rattle.tptp_lexer.specs.declared.kind.Kind.TheVariants.{Lower, Upper, Quoted, Distinct, Integer, Dollar, OpenParenthesis, CloseParenthesis, OpenBracket, CloseBracket, Comma, Dot, Colon, Exclamation, Question, Tilde, Ampersand, Bar, Implies, Implied, Iff, Xor, Nor, Nand, Equal, NotEqual}
 use Rattle.tptp_lexer.specs.declared.piece.Piece.{Piece}
 use Rattle.tptp_lexer.specs.declared.piece.Piece.TheVariants.{End, Gap, Found, BadByte, OpenQuote, OpenComment, EmptyQuote}

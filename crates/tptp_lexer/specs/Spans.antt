@@ -1,6 +1,6 @@
 -- The tokens that spans of a source are.
 use Rattle.std.specs.Prelude.{◌≤◌, length, slice_range}
-use Rattle.logic_core.specs.Names.{Text}
+use Rattle.text_core.specs.Names.{Text}
 use Rattle.tptp_lexer.specs.declared.token_list.Span.{Span}
 use Rattle.tptp_lexer.specs.Tokens.{Token}
 

@@ -1,7 +1,7 @@
 -- The tokens of a text: the longest at each place, with only blanks and comments between them.
 use Rattle.std.specs.Prelude.{◌≡◌, ℕ, ◌+◌, ◌≤◌, ◌==◌, Bool, true, false, not, ◌&&◌, ◌||◌, if◌then◌else◌, List, [], ◌∷◌, ◌++◌, length, map, slice_range, Some, None, ◌⊎◌}
 use Rattle.std.specs.List.{list_all}
-use Rattle.logic_core.specs.Names.{Text}
+use Rattle.text_core.specs.Names.{Text}
 use Rattle.tptp_lexer.specs.declared.kind.Kind.{Kind}
 use Rattle.tptp_lexer.specs.declared.kind.Kind.TheVariants.{Lower, Upper, Quoted, Integer}
 use Rattle.tptp_lexer.specs.Kinds.{kind_of, inside, begins_with}

@@ -1,7 +1,7 @@
 //! Laws over all texts.
 
 ghost use Rattle.std.specs.Prelude.{◌≡◌, ◌⊎◌, List};
-ghost use Rattle.logic_core.specs.Names.{Text};
+ghost use Rattle.text_core.specs.Names.{Text};
 ghost use Rattle.tptp_lexer.specs.declared.refusal.LexRefusal.{LexRefusal};
 ghost use Rattle.tptp_lexer.specs.Tokens.{AreInOrder, AreTokens, Token};
 ghost use Rattle.tptp_lexer.specs.Refused.{LexFault};

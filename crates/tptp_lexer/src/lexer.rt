@@ -8,7 +8,7 @@ ghost use Rattle.tptp_lexer.specs.Refused.{LexFault, IsExplained, IsOrMemory};
 use crate::piece::{Piece, piece_at};
 use crate::refusal::LexRefusal;
 use crate::token_list::{Span, Tokens};
-use logic_core::List;
+use text_core::List;
 use std::alloc::Global;
 
 /// The tokens of a source of fewer than 2 ^ 32 bytes, after the TPTP syntax: the longest token at each place, with

@@ -1,7 +1,7 @@
 ghost use Rattle.std.specs.Prelude.{◌≡◌};
 ghost use Rattle.tptp_lexer.specs.Scanning as scanning;
 
-use crate::byte::begins_with;
+use text_core::begins_with;
 use crate::kind::Kind;
 use crate::piece::Piece;
 

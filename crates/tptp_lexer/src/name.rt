@@ -4,7 +4,7 @@ ghost use Rattle.tptp_lexer.specs.Scanning.{shown_at};
 ghost use Rattle.tptp_lexer.specs.Tokens as names;
 
 use crate::kind::Kind;
-use logic_core::{Bytes, Memory, Name};
+use text_core::{Bytes, Memory, Name};
 use std::alloc::Global;
 
 /// The name that a token of these bytes is, where it is a word, a quoted word or an integer. `Memory` is want of

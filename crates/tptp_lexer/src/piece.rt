@@ -1,11 +1,12 @@
 ghost use Rattle.std.specs.Prelude.{◌≡◌, ◌+◌, ◌≤◌, length};
 ghost use Rattle.tptp_lexer.specs.Scanning as scanning;
 
-use crate::byte::{digits_len, is_blank, is_digit, is_lower, is_upper, line_len, word_len};
+use crate::byte::{digits_len, is_blank, line_len, word_len};
 use crate::comment::block_end;
 use crate::kind::Kind;
 use crate::mark::mark_from;
 use crate::quote::{QuoteEnd, quote_end};
+use text_core::{is_digit, is_lower, is_upper};
 
 /// What stands at the front of some bytes.
 #[derive(Clone, Copy, Debug)]

@@ -2,7 +2,7 @@ ghost use Rattle.std.specs.Prelude.{◌≡◌, length};
 ghost use Rattle.tptp_lexer.specs.Scanning.{quote_end, EndsWithin};
 ghost use Rattle.tptp_lexer.specs.Kinds as kinds;
 
-use crate::byte::is_printable;
+use text_core::is_printable;
 
 /// How the bytes behind a quote end.
 #[derive(Clone, Copy, Debug)]

@@ -1,4 +1,4 @@
-use logic_core::Memory;
+use text_core::Memory;
 use thiserror::Error;
 
 /// Why a text has no tokens, with the first refused place, counted in bytes from 0.

@@ -4,7 +4,7 @@ ghost use Rattle.tptp_lexer.specs.Tokens as names;
 
 use crate::kind::Kind;
 use crate::name::name_of;
-use logic_core::{Memory, Name};
+use text_core::{Memory, Name};
 use std::alloc::Global;
 use std::marker::Model;
 

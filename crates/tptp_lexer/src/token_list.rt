@@ -6,7 +6,7 @@ ghost use Rattle.tptp_lexer.specs.Tokens.{AreTokens, kinds_of, starts_of, ends_o
 use crate::kind::Kind;
 use crate::name::name_of;
 use crate::token::Token;
-use logic_core::{List, Memory, Name};
+use text_core::{List, Memory, Name};
 use std::alloc::Global;
 use std::marker::Model;
 

@@ -1,7 +1,7 @@
 -- Formulas as pieces.
 use Rattle.std.proofs.Common.{◌≡◌, ℕ, ◌+◌, ◌<◌, ◌≤◌, List, [], ◌∷◌, ◌++◌, codes, refl, ap, sym, ◌∙◌, arith, append_assoc}
 use Rattle.std.proofs.lemmas.List.{append-nil}
-use Rattle.logic_core.specs.Names.{Text}
+use Rattle.text_core.specs.Names.{Text}
 use Rattle.logic_core.specs.Nesting.{depth, greatest_depth, nesting}
 use Rattle.logic_core.specs.Problems.{TermIsBound, AreVariables, TwoOrMore, IsBoundIn, EachIsBoundIn}
 use Rattle.logic_core.specs.declared.formula.Op.{Op}
@@ -10,7 +10,7 @@ use Rattle.logic_core.specs.declared.formula.Formula.{Formula, True, False, Pred
 use Rattle.tptp_lexer.specs.declared.kind.Kind.{Kind}
 use Rattle.tptp_lexer.specs.declared.kind.Kind.TheVariants as kind
 use Rattle.tptp_lexer.specs.Tokens.{Token}
-use Rattle.tptp_grammar.specs.declared.limit.TheConstants.{MOST_LEVELS}
+use Rattle.text_core.specs.declared.limits.TheConstants.{MOST_LEVELS}
 use Rattle.tptp_grammar.specs.Spells.{SpellsVariables, SpellsFormula, alone, conjunction, disjunction, binary, SpellsRest, end, further, SpellsUnitary, brackets, negation, for_all, there_is, truth, falsehood, atom, equation, inequality}
 use Rattle.tptp_printer.specs.Canonical.{term_text, arguments_text, word_text, op_text, variables_text, in_unit, formula_text, chain_text}
 use Rattle.tptp_printer.specs.Named.{TermIsNamed, IsNamed, EachIsNamed}

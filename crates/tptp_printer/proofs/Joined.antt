@@ -1,7 +1,7 @@
 -- Texts with a separator between each two, a text at a time.
 use Rattle.std.proofs.Common.{◌≡◌, List, [], ◌∷◌, ◌++◌, refl, ap, ◌∙◌, sym, append_assoc}
 use Rattle.std.proofs.lemmas.List.{append-nil}
-use Rattle.logic_core.specs.Names.{Text}
+use Rattle.text_core.specs.Names.{Text}
 use Rattle.tptp_printer.specs.Canonical.{joined_texts}
 
 -- texts, the first behind some bytes and each further one behind the separator

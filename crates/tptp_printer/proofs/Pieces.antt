@@ -1,6 +1,6 @@
 -- Pieces of a text and the tokens that they give, in front of each rest that may follow.
 use Rattle.std.proofs.Common.{◌≡◌, ℕ, ◌+◌, true, List, [], ◌∷◌, ◌++◌, length, refl, subst, arith, append_assoc, length-append, add-zero}
-use Rattle.logic_core.specs.Names.{Text, is_word}
+use Rattle.text_core.specs.Names.{Text, is_word}
 use Rattle.tptp_lexer.specs.declared.kind.Kind.{Kind}
 use Rattle.tptp_lexer.specs.Kinds.{begins_with}
 use Rattle.tptp_lexer.specs.Tokens.{Token, IsLongest, Reads, IsEnd, is_blank, blank, token}

@@ -5,7 +5,7 @@ use Rattle.std.specs.List.{list_all}
 use Rattle.std.proofs.Math.Bool.{and-false}
 use Rattle.std.proofs.lemmas.Bool.{eqb-true}
 use Rattle.std.proofs.lemmas.Bool.Decides.{nat_tests}
-use Rattle.logic_core.specs.Names.{Text, IsPrintable, IsNameText, is_lower, is_upper, is_digit, is_word, is_word_from, is_upper_word}
+use Rattle.text_core.specs.Names.{Text, IsPrintable, IsNameText, is_lower, is_upper, is_digit, is_word, is_word_from, is_upper_word}
 use Rattle.tptp_lexer.specs.declared.kind.Kind.{Kind}
 use Rattle.tptp_lexer.specs.declared.kind.Kind.TheVariants.{Lower, Upper, Quoted, Integer, Dollar}
 use Rattle.tptp_lexer.specs.Kinds.{kind_of, is_printable, inside, is_body, is_natural, is_integer}

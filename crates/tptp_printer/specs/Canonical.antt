@@ -1,6 +1,6 @@
 -- The canonical text of a problem: one item a line, blanks and brackets in one way. Source: the TPTP syntax, FOF.
 use Rattle.std.specs.Prelude.{◌==◌, ◌||◌, List, [], ◌∷◌, ◌++◌, map, Option, Some, None, codes, if◌then◌else◌}
-use Rattle.logic_core.specs.Names.{Text, is_lower, is_word_from}
+use Rattle.text_core.specs.Names.{Text, is_lower, is_word_from}
 use Rattle.logic_core.specs.declared.formula.Term.{Term}
 use Rattle.logic_core.specs.declared.formula.Term.TheVariants.{Variable, Constant}
 use Rattle.logic_core.specs.declared.formula.Op.{Op}

@@ -1,62 +1,9 @@
 ghost use Rattle.std.specs.Prelude.{◌≡◌, ◌++◌, OnOk};
-ghost use Rattle.std.specs.List.{list_all};
-ghost use Rattle.logic_core.specs.Names as names;
+ghost use Rattle.text_core.specs.Names as names;
 ghost use Rattle.tptp_lexer.specs.Kinds as kinds;
 ghost use Rattle.tptp_printer.specs.Canonical.{escaped, quoted_text, word_text, name_text};
 
-use logic_core::{Bytes, Memory, Name};
-
-/// Whether a byte is one of `a` to `z`.
-fn is_lower(byte: u8) -> bool
-    ensures { result ≡ names.is_lower byte }
-{
-    b'a' <= byte && byte <= b'z'
-}
-
-/// Whether a byte is one of `A` to `Z`.
-fn is_upper(byte: u8) -> bool
-    ensures { result ≡ names.is_upper byte }
-{
-    b'A' <= byte && byte <= b'Z'
-}
-
-/// Whether a byte is one of `0` to `9`.
-fn is_digit(byte: u8) -> bool
-    ensures { result ≡ names.is_digit byte }
-{
-    b'0' <= byte && byte <= b'9'
-}
-
-/// Whether a word may go on with a byte: a letter, a digit or `_`.
-fn is_word(byte: u8) -> bool
-    ensures { result ≡ names.is_word byte }
-{
-    is_lower(byte) || is_upper(byte) || is_digit(byte) || byte == b'_'
-}
-
-/// Whether a word may go on with each byte.
-fn are_word_bytes(bytes: &[u8]) -> bool
-    ensures { result ≡ list_all names.is_word bytes.now }
-{
-    bytes.iter().all(|byte| is_word(*byte))
-}
-
-/// Whether each byte is a digit.
-fn are_digits(bytes: &[u8]) -> bool
-    ensures { result ≡ list_all names.is_digit bytes.now }
-{
-    bytes.iter().all(|byte| is_digit(*byte))
-}
-
-/// Whether a text is a word that begins with a lower letter.
-fn is_lower_word(text: &[u8]) -> bool
-    ensures { result ≡ names.is_word_from names.is_lower text.now }
-{
-    match text {
-        [] => false,
-        [first, rest @ ..] => is_lower(*first) && are_word_bytes(rest),
-    }
-}
+use text_core::{Bytes, Memory, Name, are_digits, is_digit, is_lower_word};
 
 /// Whether a text is a natural number.
 fn is_natural(text: &[u8]) -> bool

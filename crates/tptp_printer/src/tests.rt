@@ -1,5 +1,5 @@
 ghost use Rattle.std.specs.Prelude.{◌≡◌, [], IfOk};
-ghost use Rattle.logic_core.specs.Names.{IsNameText};
+ghost use Rattle.text_core.specs.Names.{IsNameText};
 ghost use Rattle.logic_core.specs.Problems.{MayStand};
 ghost use Rattle.logic_core.specs.declared.formula.Formula.{Pred as Atom};
 

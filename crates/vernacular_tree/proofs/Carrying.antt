@@ -3,7 +3,7 @@ use Rattle.std.proofs.Common.{◌≡◌, ℕ, zero, suc, ◌+◌, ◌-◌, ◌�
 use Rattle.std.proofs.lemmas.List.{map-append}
 use Rattle.std.proofs.lemmas.List.Sums.{sum_by-cons}
 use Rattle.std.specs.List.{AllByRecursion}
-use Rattle.logic_core.specs.Lists.{SomeOf}
+use Rattle.text_core.specs.Lists.{SomeOf}
 use Rattle.logic_core.specs.Forms.{IsWellFormed, AtomIsBelow}
 use Rattle.logic_core.specs.declared.form.Atom.{Atom}
 use Rattle.vernacular_tree.specs.Contexts.{Task, counted, parameters, atom_at, Stands, with_facts, after_mp}

@@ -2,7 +2,7 @@
 use Rattle.std.proofs.Common.{◌≡◌, ℕ, suc, ◌<◌, List, [], ◌∷◌, ◌++◌, map, length, slice_index, refl, ap, sym, ◌∙◌, subst, inl, inr, arith, length-append}
 use Rattle.std.proofs.lemmas.List.{get_or-map, get_or_append_left}
 use Rattle.std.specs.List.{AllByRecursion}
-use Rattle.logic_core.specs.Lists.{SomeOf}
+use Rattle.text_core.specs.Lists.{SomeOf}
 use Rattle.logic_core.specs.Forms.{Interpretation, SlotIsBelow, AtomIsBelow, AtomTrue, slot_value}
 use Rattle.logic_core.specs.declared.form.Slot.{Slot}
 use Rattle.logic_core.specs.declared.form.Slot.TheVariants.{Variable, Constant}

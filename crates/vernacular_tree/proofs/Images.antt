@@ -2,7 +2,7 @@
 use Rattle.std.proofs.Common.{◌≡◌, ℕ, zero, suc, ◌+◌, ◌<◌, ◌≤◌, inl, inr, ⊎_elim, List, [], ◌∷◌, ◌++◌, map, length, slice_get, slice_index, Some, refl, ap, sym, ◌∙◌, subst, arith, length-append, append-nil}
 use Rattle.std.proofs.lemmas.List.{get_or-map, get_or_append_left, length-map}
 use Rattle.std.specs.List.{AllByRecursion}
-use Rattle.logic_core.specs.Lists.{SomeOf}
+use Rattle.text_core.specs.Lists.{SomeOf}
 use Rattle.logic_core.specs.Forms.{IsWellFormed, SlotIsBelow, AtomIsBelow}
 use Rattle.logic_core.specs.declared.form.Slot.{Slot}
 use Rattle.logic_core.specs.declared.form.Slot.TheVariants.{Variable, Constant}

@@ -1,7 +1,7 @@
 -- The rules lead from contexts of a task to contexts of the task, and each of these carries over to itself.
 use Rattle.std.proofs.Common.{◌≡◌, ℕ, ◌+◌, ◌-◌, ◌<◌, ◌≤◌, inl, List, [], ◌∷◌, ◌++◌, map, length, slice_get, slice_index, Some, refl, ap, sym, ◌∙◌, subst, arith, length-append, append_assoc}
 use Rattle.std.specs.List.{AllByRecursion}
-use Rattle.logic_core.specs.Lists.{SomeOf}
+use Rattle.text_core.specs.Lists.{SomeOf}
 use Rattle.logic_core.specs.Forms.{IsWellFormed, SlotIsBelow}
 use Rattle.logic_core.specs.declared.form.Slot.{Slot}
 use Rattle.logic_core.specs.declared.form.Slot.TheVariants.{Variable, Constant}

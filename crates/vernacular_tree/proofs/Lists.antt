@@ -1,7 +1,7 @@
 -- Laws on "each" and "some" by recursion.
 use Rattle.std.proofs.Common.{◌≡◌, ℕ, zero, suc, ◌<◌, inl, inr, List, [], ◌∷◌, ◌++◌, map, length, slice_get, slice_index, Some, refl, subst, arith}
 use Rattle.std.specs.List.{AllByRecursion}
-use Rattle.logic_core.specs.Lists.{SomeOf, IsAmong}
+use Rattle.text_core.specs.Lists.{SomeOf, IsAmong}
 
 pub every_map : {X : Type 0} {P Q : X → Type 0} → ((x : X) → P x → Q x) → (xs : List X) → AllByRecursion P xs → AllByRecursion Q xs
 every_map f [] h = tt

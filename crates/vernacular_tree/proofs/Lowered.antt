@@ -1,7 +1,7 @@
 -- Without a line of facts that stand before it, all that was known is still known.
 use Rattle.std.proofs.Common.{◌≡◌, ℕ, zero, suc, ◌+◌, ◌-◌, ◌<◌, ◌≤◌, ◌⊎◌, inl, inr, ⊎_elim, List, [], ◌∷◌, ◌++◌, map, length, slice_get, Some, refl, ap, sym, ◌∙◌, subst, arith, append_assoc, append-nil, length-append, nat_lt, true, false, lt-ltb, le-ltb}
 use Rattle.std.specs.List.{AllByRecursion}
-use Rattle.logic_core.specs.Lists.{SomeOf}
+use Rattle.text_core.specs.Lists.{SomeOf}
 use Rattle.logic_core.specs.declared.form.Atom.{Atom}
 use Rattle.logic_core.specs.declared.form.Form.{Form}
 use Rattle.vernacular_tree.specs.Contexts.{Task, counted, parameters, atom_at, LineHas, Stands, line_of, with_facts, after_mp}

@@ -1,6 +1,7 @@
 -- A body is at the front of a list of nodes in at most one way.
 use Rattle.std.proofs.Common.{le_trans, ◌-◌, ◌≡◌, ℕ, ◌+◌, ◌<◌, ◌≤◌, List, [], ◌∷◌, ◌++◌, map, length, refl, ap, sym, ◌∙◌, subst, flat_map, arith, length-append, append-nil}
 use Rattle.std.proofs.lemmas.List.{append_assoc, length-map}
+use Rattle.text_core.specs.declared.limits.TheConstants.{MOST_APPLICATIONS}
 use Rattle.vernacular_tree.specs.Preorders.{mp_node, branch_count, end_nodes, branch_nodes, preorder, IsTree}
 use Rattle.vernacular_tree.specs.Readings.{StopsSteps, AreShallow}
 use Rattle.vernacular_tree.specs.Sizes.{size, sizes, end_size, nesting, end_nesting}
@@ -169,11 +170,11 @@ branches_refused levels count nodes rest (r ∷ read) front few none (b ∷ bs) 
     branches_refused levels (length bs) (flat_map preorder read ++ rest) rest read refl (omega arith) none bs rest2 same.1 refl shallow.1
 
 -- the whole list
-pub long_refused : (nodes : List Node) → 65536 < length nodes → IsTree nodes → ⊥
+pub long_refused : (nodes : List Node) → MOST_APPLICATIONS < length nodes → IsTree nodes → ⊥
 long_refused nodes long tree =
     let count : length (preorder tree.tree) ≡ size tree.tree = preorder_length tree.tree in
     let same : length (preorder tree.tree) ≡ length nodes = ap length tree.preorder_is in
-    let few : size tree.tree ≤ 65536 = tree.bounded.small in
+    let few : size tree.tree ≤ MOST_APPLICATIONS = tree.bounded.small in
     omega arith
 
 pub rest_refused : (nodes rest : List Node) (body : Body) → nodes ≡ preorder body ++ rest → 0 < length rest → IsTree nodes → ⊥

@@ -2,7 +2,7 @@
 -- known in it is known there.
 use Rattle.std.specs.Prelude.{ℕ, ◌<◌, ◌≤◌, ◌≡◌, ◌⊎◌, List, map, length, slice_get, slice_index, Some}
 use Rattle.std.specs.List.{AllByRecursion}
-use Rattle.logic_core.specs.Lists.{SomeOf}
+use Rattle.text_core.specs.Lists.{SomeOf}
 use Rattle.logic_core.specs.Forms.{AtomIsBelow}
 use Rattle.logic_core.specs.declared.form.Slot.{Slot}
 use Rattle.logic_core.specs.declared.form.Slot.TheVariants.{Variable, Constant}

@@ -1,7 +1,7 @@
 -- Tasks and contexts, and what a rule does to a context. Source: the 2014 paper "A Vernacular for Coherent
 -- Logic". Elements and lines are numbered from 0.
 use Rattle.std.specs.Prelude.{ℕ, zero, suc, ◌+◌, ◌-◌, List, [], ◌∷◌, ◌++◌, map, slice_index}
-use Rattle.logic_core.specs.Lists.{SomeOf, IsAmong}
+use Rattle.text_core.specs.Lists.{SomeOf, IsAmong}
 use Rattle.logic_core.specs.declared.form.Slot.{Slot}
 use Rattle.logic_core.specs.declared.form.Slot.TheVariants.{Variable, Constant}
 use Rattle.logic_core.specs.declared.form.Atom.{Atom}

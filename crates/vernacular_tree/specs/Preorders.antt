@@ -1,6 +1,7 @@
 -- A proof as the list of its rule applications, each before those that it leads to, the branches of a split in
 -- order; and which proofs a `Proof` may hold.
 use Rattle.std.specs.Prelude.{ℕ, ◌+◌, ◌≤◌, ◌≡◌, List, [], ◌∷◌, ◌++◌, map}
+use Rattle.text_core.specs.declared.limits.TheConstants.{MOST_APPLICATIONS, MOST_SPLITS}
 use Rattle.vernacular_tree.specs.Sizes.{size, nesting}
 use Rattle.vernacular_tree.specs.declared.tree.Mp.{Mp}
 use Rattle.vernacular_tree.specs.declared.tree.Body.{Body}
@@ -30,10 +31,10 @@ abbrev mutual
 abbrev pub preorder : Body → List Node
 preorder body = map mp_node body.steps ++ end_nodes body.end
 
--- a `Proof` has at most 65,536 rule applications, and at most 200 splits around one of them
+-- a `Proof` has not too many rule applications, and not too many splits around one of them
 pub record IsBounded (body : Body) : Type 0 where
-  pub small : size body ≤ 65536
-  pub shallow : nesting body ≤ 200
+  pub small : size body ≤ MOST_APPLICATIONS
+  pub shallow : nesting body ≤ MOST_SPLITS
 
 -- the nodes are the whole preorder of a tree that a `Proof` may hold
 pub record IsTree (nodes : List Node) : Type 0 where

@@ -2,7 +2,7 @@
 -- case split, assumption, ex falso quodlibet.
 use Rattle.std.specs.Prelude.{ℕ, ◌<◌, ◌-◌, ◌≡◌, List, [], ◌∷◌, ◌++◌, length, slice_get, Some}
 use Rattle.std.specs.List.{AllByRecursion}
-use Rattle.logic_core.specs.Lists.{SomeOf}
+use Rattle.text_core.specs.Lists.{SomeOf}
 use Rattle.logic_core.specs.declared.form.Atom.{Atom}
 use Rattle.logic_core.specs.declared.form.Form.{Form}
 use Rattle.vernacular_tree.specs.Contexts.{Task, parameters, atom_at, Stands, start_context, with_facts, after_mp}

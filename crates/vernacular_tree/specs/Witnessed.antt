@@ -2,7 +2,7 @@
 -- do not give already.
 use Rattle.std.specs.Prelude.{ℕ, ◌≤◌, List, ◌++◌}
 use Rattle.std.specs.List.{AllByRecursion}
-use Rattle.logic_core.specs.Lists.{SomeOf}
+use Rattle.text_core.specs.Lists.{SomeOf}
 use Rattle.logic_core.specs.declared.form.Form.{Form}
 use Rattle.vernacular_tree.specs.Contexts.{Task, atom_at, Stands}
 use Rattle.vernacular_tree.specs.Rules.{AreKnown}

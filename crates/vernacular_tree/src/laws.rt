@@ -1,7 +1,8 @@
 ghost use Rattle.std.specs.Prelude.{ℕ, ◌+◌, ◌≡◌, List, ◌++◌, length, slice_get, Some};
 ghost use Rattle.std.specs.List.{AllByRecursion};
 ghost use Rattle.logic_core.specs.Truth.{structure};
-ghost use Rattle.logic_core.specs.Forms.{IsWellFormed, Tables, FormTrue, interpretation};
+ghost use Rattle.logic_core.specs.Forms.{IsWellFormed, FormTrue, interpretation};
+ghost use Rattle.text_core.specs.Numbered.{Tables};
 ghost use Rattle.vernacular_tree.specs.Carries.{Carries, HasProof};
 ghost use Rattle.vernacular_tree.specs.Contexts.{Task, counted, start_context, with_facts, after_mp};
 ghost use Rattle.vernacular_tree.specs.Witnessed.{IsContext, Witnessed};

@@ -12,6 +12,7 @@ ghost use Rattle.vernacular_tree.specs.Readings.{StopsSteps, AreShallow};
 use crate::tree::{Body, End, Mp, Node};
 use logic_core::{List, Memory};
 use std::alloc::Global;
+use text_core::MOST_APPLICATIONS;
 use thiserror::Error;
 
 /// Why a list of nodes gives no proof.
@@ -48,7 +49,7 @@ fn push_steps(alloc: Global, nodes: &mut List<Node>, steps: &[Mp]) -> Result<(),
 
 #[cycle(push)]
 fn push_branches(alloc: Global, nodes: &mut List<Node>, branches: &[Body]) -> Result<(), Memory>
-    requires { sum_by size branches.now ≤ 65536 }
+    requires { sum_by size branches.now ≤ MOST_APPLICATIONS }
     ensures { OnOk result (nodes.new ≡ nodes.old ++ flat_map preorder branches.now) }
 {
     for branch in branches {
@@ -60,7 +61,7 @@ fn push_branches(alloc: Global, nodes: &mut List<Node>, branches: &[Body]) -> Re
 /// Appends the rule applications of a body in preorder.
 #[cycle(push)]
 pub(crate) fn push_body(alloc: Global, nodes: &mut List<Node>, body: &Body) -> Result<(), Memory>
-    requires { size body.now ≤ 65536 }
+    requires { size body.now ≤ MOST_APPLICATIONS }
     ensures { OnOk result (nodes.new ≡ nodes.old ++ preorder body.now) }
 {
     push_steps(alloc, nodes, body.steps.as_slice())?;

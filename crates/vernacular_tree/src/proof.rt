@@ -10,12 +10,7 @@ use crate::tree_copy::copy_body;
 use logic_core::{List, Memory};
 use std::alloc::Global;
 use std::marker::Model;
-
-/// The most rule applications that a proof has.
-const MOST_APPLICATIONS: usize = 65536;
-
-/// The most splits that stand around a rule application of a proof.
-const MOST_SPLITS: u32 = 200;
+use text_core::{MOST_APPLICATIONS, MOST_SPLITS};
 
 /// A proof: one body with at most 65,536 rule applications, and at most 200 splits around any of them, so that
 /// recursion over it stays shallow. Contracts see the body.
@@ -109,7 +104,7 @@ impl Proof {
         ensures bounded { IfOk result IsBounded }
         ensures not_a_tree { IsErrOf result TreeRefusal.NotATree → IsTree nodes.now → ⊥ }
     {
-        if nodes.len() > MOST_APPLICATIONS {
+        if nodes.len() > MOST_APPLICATIONS as usize {
             return Err(TreeRefusal::NotATree);
         }
         let (body, rest) = read_body(alloc, nodes.as_slice(), MOST_SPLITS)?;

@@ -1,7 +1,7 @@
 use Rattle.std.proofs.Common.{◌<◌, ◌≤◌, ◌≡◌, ◌+◌, ◌∷◌, [], ap, ◌∙◌, length, length-append, arith}
 use Rattle.std.proofs.lemmas.Result.{err_from_is_err_and}
 use Rattle.logic_core.specs.Problems.{ItemMayStand}
-use Rattle.tptp_grammar.specs.declared.limit.TheConstants.{MOST_LEVELS}
+use Rattle.text_core.specs.declared.limits.TheConstants.{MOST_LEVELS}
 use Rattle.tptp_grammar.proofs.ItemLoop.{item_left, one_read, gives_up, all_read, is_one}
 use Rattle.tptp_grammar.proofs.item_reader.read_text.Goals as goal
 

@@ -1,6 +1,6 @@
 use Rattle.std.specs.Prelude.{◌≡◌, length, None}
 use Rattle.std.proofs.Common.{sym, ◌∙◌}
-use Rattle.tptp_grammar.specs.declared.limit.TheConstants.{MOST_LEVELS}
+use Rattle.text_core.specs.declared.limits.TheConstants.{MOST_LEVELS}
 use Rattle.tptp_grammar.specs.Reading.{items_from}
 use Rattle.tptp_grammar.proofs.Accepted.{readable, read_is_text, some_not_none}
 use Rattle.tptp_grammar.proofs.items.read_accepted.Goals as goal

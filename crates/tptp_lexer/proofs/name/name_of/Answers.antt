@@ -1,5 +1,5 @@
 use Rattle.std.proofs.Common.{◌≡◌, ◌≢◌, [], true, sym, ◌∙◌, subst, ap, arith, IfOk}
-use Rattle.logic_core.specs.Names.{Text}
+use Rattle.text_core.specs.Names.{Text}
 use Rattle.tptp_lexer.specs.Kinds.{is_body}
 use Rattle.tptp_lexer.specs.Tokens.{named, unescaped}
 use Rattle.tptp_lexer.proofs.Names.{quotation, plain_name}

@@ -1,5 +1,5 @@
 use Rattle.std.proofs.Common.{◌∙◌, ap, ◌++◌}
-use Rattle.logic_core.specs.Names.{Text}
+use Rattle.text_core.specs.Names.{Text}
 use Rattle.tptp_printer.specs.Canonical.{item_text}
 use Rattle.tptp_printer.proofs.Items.{item_back}
 use Rattle.tptp_printer.proofs.print.print_item.Goals as goal

@@ -1,5 +1,5 @@
 use Rattle.std.proofs.Common.{◌≡◌, List, [], ◌∷◌, ◌++◌, ap, ◌∙◌, sym, refl, subst, lit≤}
-use Rattle.logic_core.specs.Names.{Text}
+use Rattle.text_core.specs.Names.{Text}
 use Rattle.logic_core.specs.Problems.{MayStand}
 use Rattle.logic_core.specs.Openings.{row_of, Not_opens, And_opens, Binary_opens}
 use Rattle.logic_core.specs.declared.formula.Op.TheVariants.{Implied}

@@ -1,6 +1,7 @@
 use Rattle.std.proofs.Common.{length, slice_get}
 use Rattle.logic_core.specs.Truth.{structure}
-use Rattle.logic_core.specs.Forms.{interpretation, text_or_empty}
+use Rattle.logic_core.specs.Forms.{interpretation}
+use Rattle.text_core.specs.Numbered.{text_or_empty}
 use Rattle.vernacular_tree.proofs.Truths.{goal_true}
 use Rattle.vernacular_tree.proofs.laws.soundness.Goals as goal
 

@@ -32,6 +32,15 @@ is_digit b = nat_le 48 b && nat_le b 57
 abbrev pub is_word : ℕ → Bool
 is_word b = is_lower b || is_upper b || is_digit b || b == 95
 
+-- printable ASCII, from the blank to the tilde
+abbrev pub is_printable : ℕ → Bool
+is_printable b = nat_le 32 b && nat_le b 126
+
+-- the bytes begin with this byte
+abbrev pub begins_with : ℕ → Text → Bool
+begins_with b [] = false
+begins_with b (c ∷ cs) = c == b
+
 -- a byte of this class, and then letters, digits and low lines
 abbrev pub is_word_from : (ℕ → Bool) → Text → Bool
 is_word_from first [] = false

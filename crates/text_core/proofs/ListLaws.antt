@@ -1,0 +1,157 @@
+-- Laws on lists: of "each" and "some" by recursion, of members, of items by their number, and of fronts.
+use Rattle.std.proofs.Common.{◌≡◌, ℕ, zero, suc, ◌+◌, ◌<◌, ◌≤◌, ◌⊎◌, inl, inr, List, [], ◌∷◌, ◌++◌, map, length, take, slice_get, slice_index, Some, refl, ap, subst, arith, add-one}
+use Rattle.std.specs.List.{AllByRecursion}
+use Rattle.text_core.specs.Lists.{SomeOf, IsAmong}
+
+-- what holds of each member, where it follows from what held
+pub each_map : {X : Type 0} {P Q : X → Type 0} → ((x : X) → P x → Q x) → (xs : List X) → AllByRecursion P xs → AllByRecursion Q xs
+each_map f [] h = tt
+each_map f (x ∷ xs) h = (f x h.0, each_map f xs h.1)
+
+-- each member of two lists, one behind the other
+pub each_append : {X : Type 0} (P : X → Type 0) (xs ys : List X) → AllByRecursion P xs → AllByRecursion P ys → AllByRecursion P (xs ++ ys)
+each_append P [] ys a b = b
+each_append P (x ∷ xs) ys a b = (a.0, each_append P xs ys a.1 b)
+
+-- each member of the front of two lists, one behind the other
+pub each_front : {X : Type 0} (P : X → Type 0) (xs ys : List X) → AllByRecursion P (xs ++ ys) → AllByRecursion P xs
+each_front P [] ys h = tt
+each_front P (x ∷ xs) ys h = (h.0, each_front P xs ys h.1)
+
+-- each member of the back of two lists, one behind the other
+pub each_back : {X : Type 0} (P : X → Type 0) (xs ys : List X) → AllByRecursion P (xs ++ ys) → AllByRecursion P ys
+each_back P [] ys h = h
+each_back P (x ∷ xs) ys h = each_back P xs ys h.1
+
+-- the member with this number, where each has P
+pub each_get : {X : Type 0} (P : X → Type 0) (xs : List X) (i : ℕ) (x : X) → AllByRecursion P xs → slice_get xs i ≡ Some x → P x
+each_get P [] i x h e = absurd (cc)
+each_get P (y ∷ ys) zero x h e = subst P (let same : y ≡ x = cc in same) h.0
+each_get P (y ∷ ys) (suc i) x h e = each_get P ys i x h.1 e
+
+-- the number at this index, where each has P
+pub each_index : (P : ℕ → Type 0) (xs : List ℕ) (i : ℕ) → i < length xs → AllByRecursion P xs → P (slice_index xs i)
+each_index P [] i h all = absurd (omega arith)
+each_index P (x ∷ xs) zero h all = all.0
+each_index P (x ∷ xs) (suc i) h all = each_index P xs i (omega arith) all.1
+
+-- a member, where each has P
+pub each_member : {X : Type 0} (P : X → Type 0) (xs : List X) → AllByRecursion P xs → (x : X) → IsAmong x xs → P x
+each_member P [] h x among = absurd among
+each_member P (y ∷ ys) h x (inl e) = subst P e h.0
+each_member P (y ∷ ys) h x (inr among) = each_member P ys h.1 x among
+
+-- where P and Q of each member give R of it
+pub each_both : {X : Type 0} {P Q R : X → Type 0} → ((x : X) → P x → Q x → R x) → (xs : List X)
+    → AllByRecursion P xs → AllByRecursion Q xs → AllByRecursion R xs
+each_both g [] p q = tt
+each_both g (x ∷ xs) p q = (g x p.0 q.0, each_both g xs p.1 q.1)
+
+-- where P and Q of each member give R of its image
+pub each_mapped : {X Y : Type 0} {P Q : X → Type 0} (R : Y → Type 0) (f : X → Y) → ((x : X) → P x → Q x → R (f x))
+    → (xs : List X) → AllByRecursion P xs → AllByRecursion Q xs → AllByRecursion R (map f xs)
+each_mapped R f g [] p q = tt
+each_mapped R f g (x ∷ xs) p q = (g x p.0 q.0, each_mapped R f g xs p.1 q.1)
+
+-- each member is among the members
+pub each_is_among : {X : Type 0} (xs : List X) → AllByRecursion (λ x. IsAmong x xs) xs
+each_is_among [] = tt
+each_is_among (x ∷ xs) = (inl refl, each_map (λ y among. inr among) xs (each_is_among xs))
+
+-- each member's image is among the images
+pub each_image_is_among : {X Y : Type 0} (f : X → Y) (xs : List X) → AllByRecursion (λ x. IsAmong (f x) (map f xs)) xs
+each_image_is_among f [] = tt
+each_image_is_among f (x ∷ xs) = (inl refl, each_map (λ y among. inr among) xs (each_image_is_among f xs))
+
+-- two functions that agree at each member have the same images
+pub each_same : {X Y : Type 0} (f g : X → Y) (xs : List X) → AllByRecursion (λ x. f x ≡ g x) xs → map f xs ≡ map g xs
+each_same f g [] h = refl
+each_same f g (x ∷ xs) h = let rest = each_same f g xs h.1 in let first : f x ≡ g x = h.0 in cc
+
+-- some member of the front
+pub some_front : {X : Type 0} (P : X → Type 0) (xs ys : List X) → SomeOf P xs → SomeOf P (xs ++ ys)
+some_front P [] ys h = absurd h
+some_front P (x ∷ xs) ys (inl h) = inl h
+some_front P (x ∷ xs) ys (inr h) = inr (some_front P xs ys h)
+
+-- some member of the back
+pub some_back : {X : Type 0} (P : X → Type 0) (xs ys : List X) → SomeOf P ys → SomeOf P (xs ++ ys)
+some_back P [] ys h = h
+some_back P (x ∷ xs) ys h = inr (some_back P xs ys h)
+
+-- some member of two lists, one behind the other, is in one of them
+pub some_append : {X : Type 0} (P : X → Type 0) (xs ys : List X) → SomeOf P (xs ++ ys) → SomeOf P xs ⊎ SomeOf P ys
+some_append P [] ys h = inr h
+some_append P (x ∷ xs) ys (inl h) = inl (inl h)
+some_append P (x ∷ xs) ys (inr h) = elim (some_append P xs ys h) [ inl a ↦ inl (inr a) | inr b ↦ inr b ]
+
+-- the member with this number
+pub some_at : {X : Type 0} (P : X → Type 0) (xs : List X) (i : ℕ) (x : X) → slice_get xs i ≡ Some x → P x → SomeOf P xs
+some_at P [] i x e h = absurd (cc)
+some_at P (y ∷ ys) zero x e h = inl (subst P (let same : x ≡ y = cc in same) h)
+some_at P (y ∷ ys) (suc i) x e h = inr (some_at P ys i x e h)
+
+-- where P of each member and Q of some give R of that one
+pub some_both : {X : Type 0} {P Q R : X → Type 0} → ((x : X) → P x → Q x → R x) → (xs : List X)
+    → AllByRecursion P xs → SomeOf Q xs → SomeOf R xs
+some_both g [] p q = q
+some_both g (x ∷ xs) p (inl q) = inl (g x p.0 q)
+some_both g (x ∷ xs) p (inr q) = inr (some_both g xs p.1 q)
+
+-- where P of each member and Q of some give R of its image
+pub some_mapped : {X Y : Type 0} {P Q : X → Type 0} (R : Y → Type 0) (f : X → Y) → ((x : X) → P x → Q x → R (f x))
+    → (xs : List X) → AllByRecursion P xs → SomeOf Q xs → SomeOf R (map f xs)
+some_mapped R f g [] p q = q
+some_mapped R f g (x ∷ xs) p (inl q) = inl (g x p.0 q)
+some_mapped R f g (x ∷ xs) p (inr q) = inr (some_mapped R f g xs p.1 q)
+
+-- where P of each member and Q of some give R
+pub some_with : {X : Type 0} {P Q : X → Type 0} {R : Type 0} → ((x : X) → P x → Q x → R) → (xs : List X)
+    → AllByRecursion P xs → SomeOf Q xs → R
+some_with g [] p q = absurd q
+some_with g (x ∷ xs) p (inl q) = g x p.0 q
+some_with g (x ∷ xs) p (inr q) = some_with g xs p.1 q
+
+-- a member of the front
+pub among_front : {X : Type 0} (x : X) (xs ys : List X) → IsAmong x xs → IsAmong x (xs ++ ys)
+among_front x xs ys h = some_front (λ y. y ≡ x) xs ys h
+
+-- a member of the back
+pub among_back : {X : Type 0} (x : X) (xs ys : List X) → IsAmong x ys → IsAmong x (xs ++ ys)
+among_back x xs ys h = some_back (λ y. y ≡ x) xs ys h
+
+-- a member of two lists, one behind the other, is in one of them
+pub among_append : {X : Type 0} (x : X) (xs ys : List X) → IsAmong x (xs ++ ys) → IsAmong x xs ⊎ IsAmong x ys
+among_append x xs ys h = some_append (λ y. y ≡ x) xs ys h
+
+-- an item keeps its number where the list grows
+pub get_front : {X : Type 0} (xs ys : List X) (i : ℕ) (x : X) → slice_get xs i ≡ Some x → slice_get (xs ++ ys) i ≡ Some x
+get_front [] ys i x e = absurd (cc)
+get_front (y ∷ xs) ys zero x e = e
+get_front (y ∷ xs) ys (suc i) x e = get_front xs ys i x e
+
+-- the item behind a front has its length as number
+pub get_behind : {X : Type 0} (xs : List X) (x : X) (ys : List X) → slice_get (xs ++ x ∷ ys) (length xs) ≡ Some x
+get_behind [] x ys = refl
+get_behind (y ∷ xs) x ys = get_behind xs x ys
+
+-- a front that is longer by one
+pub take_next : {X : Type 0} (xs : List X) (i : ℕ) (x : X) → slice_get xs i ≡ Some x → take (i + 1) xs ≡ take i xs ++ x ∷ []
+take_next xs i x e = rw add-one (more xs i x e)
+  where
+    more : {X : Type 0} (xs : List X) (i : ℕ) (x : X) → slice_get xs i ≡ Some x → take (suc i) xs ≡ take i xs ++ x ∷ []
+    more [] i x e = absurd (cc)
+    more (y ∷ ys) zero x e = let same : y ≡ x = cc in ap (λ z. z ∷ []) same
+    more (y ∷ ys) (suc i) x e = ap (λ zs. y ∷ zs) (more ys i x e)
+
+-- a front of the whole length is the list
+pub take_all : {X : Type 0} (xs : List X) (n : ℕ) → length xs ≤ n → take n xs ≡ xs
+take_all [] zero h = refl
+take_all [] (suc n) h = refl
+take_all (x ∷ xs) zero h = absurd (omega arith)
+take_all (x ∷ xs) (suc n) h = ap (λ zs. x ∷ zs) (take_all xs n (omega arith))
+
+-- two lists in which the first has a member
+pub no_front : {X : Type 0} (xs ys : List X) → xs ++ ys ≡ [] → xs ≡ []
+no_front [] ys e = refl
+no_front (x ∷ xs) ys e = absurd (cc)
