@@ -10,4 +10,3 @@ pub mod Agreement
 pub mod Translated
 pub mod OfValues
 pub mod OneValue
-
