@@ -1,3 +1,1 @@
-pub mod ListLaws
-pub mod TestLaws
-pub mod ExactLaw
+pub mod Laws

@@ -1,7 +1,8 @@
--- Laws on lists: of "each" and "some" by recursion, of members, of items by their number, and of fronts.
-use Rattle.std.proofs.Common.{◌≡◌, ℕ, zero, suc, ◌+◌, ◌<◌, ◌≤◌, ◌⊎◌, inl, inr, List, [], ◌∷◌, ◌++◌, map, length, take, slice_get, slice_index, Some, refl, ap, subst, arith, add-one}
+-- Laws for every crate: on lists, on members, on items by their number, on fronts, on tests, on options and on exact answers.
+use Rattle.std.proofs.Common.{◌≡◌, ℕ, zero, suc, ◌+◌, ◌<◌, ◌≤◌, ◌==◌, ◌⊎◌, inl, inr, Bool, true, false, not, ◌&&◌, ◌||◌, List, [], ◌∷◌, ◌++◌, map, length, take, slice_get, slice_index, Some, Result, Ok, Err, refl, ap, subst, arith, add-one}
 use Rattle.std.specs.List.{AllByRecursion}
 use Rattle.text_core.specs.Lists.{SomeOf, IsAmong}
+use Rattle.text_core.specs.Exact.{Exact}
 
 -- what holds of each member, where it follows from what held
 pub each_map : {X : Type 0} {P Q : X → Type 0} → ((x : X) → P x → Q x) → (xs : List X) → AllByRecursion P xs → AllByRecursion Q xs
@@ -155,3 +156,68 @@ take_all (x ∷ xs) (suc n) h = ap (λ zs. x ∷ zs) (take_all xs n (omega arith
 pub no_front : {X : Type 0} (xs ys : List X) → xs ++ ys ≡ [] → xs ≡ []
 no_front [] ys e = refl
 no_front (x ∷ xs) ys e = absurd (cc)
+
+-- the value of an option is one
+pub value_same : {X : Type 0} {x y : X} → Some x ≡ Some y → x ≡ y
+value_same e = cc
+
+-- both tests pass
+pub and_both : (a b : Bool) → (a && b) ≡ true → (a ≡ true) × (b ≡ true)
+and_both true b e = (refl, e)
+and_both false b e = absurd (cc)
+
+-- two tests that pass, as one
+pub and_true : (a b : Bool) → a ≡ true → b ≡ true → (a && b) ≡ true
+and_true true b e f = f
+and_true false b e f = absurd (cc)
+
+-- one of the tests passes
+pub or_either : (a b : Bool) → (a || b) ≡ true → (a ≡ true) ⊎ (b ≡ true)
+or_either true b e = inl refl
+or_either false b e = inr e
+
+-- neither test passes
+pub or_neither : (a b : Bool) → (a || b) ≡ false → (a ≡ false) × (b ≡ false)
+or_neither true b e = absurd (cc)
+or_neither false b e = (refl, e)
+
+-- a test whose opposite passes fails
+pub not_true : (a : Bool) → not a ≡ true → a ≡ false
+not_true true e = absurd (cc)
+not_true false e = refl
+
+-- a test that cannot pass fails
+pub not_passes : (a : Bool) → (a ≡ true → ⊥) → a ≡ false
+not_passes true h = absurd (h refl)
+not_passes false h = refl
+
+-- a test does not pass and fail
+pub not_both : (a : Bool) → a ≡ true → a ≡ false → ⊥
+not_both a e f = cc
+
+-- numbers that pass the test of equality are the same
+pub number_same : (m n : ℕ) → (m == n) ≡ true → m ≡ n
+number_same m n e = grind arith
+
+-- one value, one refusal, never both
+module _ {X E : Type 0} (IsValue : X → Type 0) (IsRefused : E → Type 0) (memory : E)
+    (one_value : (a b : X) → IsValue a → IsValue b → a ≡ b)
+    (one_refusal : (a b : E) → IsRefused a → IsRefused b → a ≡ b)
+    (never_both : (a : X) (b : E) → IsValue a → IsRefused b → ⊥) where
+  -- a value at hand is the exact answer
+  pub exact_value : (value : X) → IsValue value → Exact IsValue IsRefused memory (Ok value)
+  exact_value value is = record {
+    ok = is;
+    err = tt;
+    found = λ other also. one_value value other is also;
+    told = λ reason refused. never_both value reason is refused;
+  }
+
+  -- a refusal at hand is the exact answer
+  pub exact_refusal : (why : E) → (why ≡ memory) ⊎ IsRefused why → Exact IsValue IsRefused memory (Err why)
+  exact_refusal why is = record {
+    ok = tt;
+    err = is;
+    found = λ value also. elim is [ inl none ↦ none | inr refused ↦ absurd (never_both value why also refused) ];
+    told = λ reason also. elim is [ inl none ↦ inr none | inr refused ↦ inl (one_refusal why reason refused also) ];
+  }
