@@ -7,6 +7,7 @@ pub mod Step
 pub mod Acting
 pub mod Answers
 pub mod Factored
+pub mod Stacks
 pub mod Making
 pub mod Productions
 pub mod SpelledAs

@@ -12,6 +12,7 @@ mod nothing;
 mod part;
 mod refusal;
 mod source;
+mod stack;
 
 pub use builder::Builder;
 pub use factored::{Factored, factored_agrees};
@@ -21,3 +22,4 @@ pub use nothing::Nothing;
 pub use part::{Part, Step, expand};
 pub use refusal::Refusal;
 pub use source::Source;
+pub use stack::Stack;
