@@ -10,3 +10,4 @@ pub mod Agreement
 pub mod Translated
 pub mod OfValues
 pub mod OneValue
+pub mod Telling

@@ -13,6 +13,7 @@ mod part;
 mod refusal;
 mod source;
 mod stack;
+mod told;
 
 pub use builder::Builder;
 pub use factored::{Factored, factored_agrees};
@@ -23,3 +24,4 @@ pub use part::{Part, Step, expand};
 pub use refusal::Refusal;
 pub use source::Source;
 pub use stack::Stack;
+pub use told::{Told, seen_is_told};
