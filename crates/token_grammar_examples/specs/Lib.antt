@@ -4,3 +4,5 @@ pub mod Watching
 pub mod Values
 pub mod Effects
 pub mod EffectsLaw
+pub mod Marks
+pub mod MarksLaw

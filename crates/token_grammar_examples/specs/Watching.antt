@@ -14,7 +14,7 @@ use Rattle.token_grammar_examples.specs.declared.symbol.Taker.TheVariants.{Numbe
 abbrev pub counted : Count → ℕ → Result Count Fault.Fault
 counted count level =
     if nat_lt count.marks MOST_MARKS then
-        (if nat_lt MOST_LEVELS level then Err TooDeep else Ok (record count { marks = count.marks + 1; level = level }))
+    (if nat_lt MOST_LEVELS level then Err TooDeep else Ok (record count { marks = count.marks + 1; level = level }))
     else Err TooMany
 
 -- the watcher counts numbers and rows, and how many rows are open
@@ -32,3 +32,7 @@ expression_watcher = watcher_of look
 abbrev pub CountsMark : Count → ℕ → Count → Result (Unit {0}) Fault.Fault → Type 0
 CountsMark before level after (Ok _) = counted before level ≡ Ok after
 CountsMark before level after (Err fault) = counted before level ≡ Err fault
+
+-- what the watcher keeps before the first token
+abbrev pub nothing_seen : Count
+nothing_seen = record { marks = 0; level = 0 }

@@ -2,20 +2,18 @@
 //! a count and at a level, and a builder that makes their values.
 #![tactic(auto)]
 
-
 mod builder;
 mod expression;
 mod mark;
-
+mod reader;
 mod symbol;
-
-
+#[cfg(test)]
+mod tests;
 mod watch;
-
 
 pub use builder::ExpressionBuilder;
 pub use expression::Expression;
 pub use mark::Mark;
-
+pub use reader::{Counting, expressions_have_one_value, read_expression};
 pub use symbol::{Rule, Symbol, Taker};
 pub use watch::{Count, Fault, MOST_LEVELS, MOST_MARKS};

@@ -117,10 +117,7 @@ impl Part for Symbol {
                 stack,
                 &[Taken(Minus), Row(Operand), Row(Negate)],
             ),
-            (Row(Operand), Mark::Open) => expand(
-                stack,
-                &[Taken(Open), Row(Whole), Taken(Close)],
-            ),
+            (Row(Operand), Mark::Open) => expand(stack, &[Taken(Open), Row(Whole), Taken(Close)]),
             (Row(Operand), Mark::OpenRow) => expand(
                 stack,
                 &[Taken(OpenRow), Row(Members), Taken(CloseRow)],
@@ -164,13 +161,14 @@ impl Taker {
     {
         matches!(
             (self, token),
-            (Number, Mark::Number(_)) | (Minus, Mark::Minus) | (FirstPlus | NextPlus, Mark::Plus) | (
-                Open,
-                Mark::Open
-            ) | (Close, Mark::Close) | (OpenRow, Mark::OpenRow) | (CloseRow, Mark::CloseRow) | (
-                Comma,
-                Mark::Comma
-            )
+            (Number, Mark::Number(_))
+                | (Minus, Mark::Minus)
+                | (FirstPlus | NextPlus, Mark::Plus)
+                | (Open, Mark::Open)
+                | (Close, Mark::Close)
+                | (OpenRow, Mark::OpenRow)
+                | (CloseRow, Mark::CloseRow)
+                | (Comma, Mark::Comma)
         )
     }
 }
