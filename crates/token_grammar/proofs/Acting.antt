@@ -1,5 +1,5 @@
 -- What the machine has the builder do, followed from the row on its stack.
-use Rattle.std.proofs.Common.{◌≡◌, refl, sym, ◌∙◌, ap, subst, ℕ, ◌+◌, arith, Bool, true, false, ◌&&◌, List, [], ◌∷◌, ◌++◌, length, reverse, append_assoc, append-nil, length-append}
+use Rattle.std.proofs.Common.{◌≡◌, refl, sym, ◌∙◌, ap, subst, ◌+◌, arith, true, ◌&&◌, List, [], ◌∷◌, ◌++◌, length, reverse, append_assoc, append-nil, length-append}
 use Rattle.std.specs.Prelude.{Option, Some, None, IsTrue}
 use Rattle.std.specs.List.{list_all}
 use Rattle.std.proofs.lemmas.List.{length-reverse, reverse-append, reverse-reverse}
@@ -9,7 +9,7 @@ use Rattle.token_grammar.specs.Grammar.{Grammar}
 use Rattle.token_grammar.specs.Plan.{Plan, predicted, is_nullable}
 use Rattle.token_grammar.specs.Step.{Steps, Pushes}
 use Rattle.token_grammar.specs.Acting.{Acted, Continues, ComesTo}
-use Rattle.token_grammar.specs.Acting.Acted.{ended, token, passed, replaced}
+use Rattle.token_grammar.specs.Acting.Acted.{token, passed, replaced}
 use Rattle.token_grammar.specs.declared.part.Step.{Step}
 use Rattle.token_grammar.specs.declared.part.Step.TheVariants.{Take, Expand}
 use Rattle.token_grammar.proofs.Predicted.{numbered_among, empty_among}

@@ -15,16 +15,6 @@ use Rattle.token_grammar.proofs.Spelling.{joined}
 use Rattle.token_grammar.proofs.Agreement.{front_seen, taken_length, one_taking_of_text}
 use Rattle.token_grammar.proofs.OfValues.{element_among}
 
--- what holds before the tokens holds after them where it holds after each
-pub sees_keep : {P T S F : Type 0} (watcher : Watcher P T S F) (Holds : S → Type 0) →
-    ((before after : S) (p : P) (t : T) → watcher.sees before p t after → Holds before → Holds after) →
-    (takers : List P) (ts : List T) (before after : S) → Sees watcher before takers ts after → Holds before → Holds after
-sees_keep watcher Holds keeps [] [] before after seen holds = subst Holds (sym seen) holds
-sees_keep watcher Holds keeps [] (t ∷ ts) before after seen holds = absurd seen
-sees_keep watcher Holds keeps (p ∷ ps) [] before after seen holds = absurd seen
-sees_keep watcher Holds keeps (p ∷ ps) (t ∷ ts) before after (between, first, rest) holds =
-    sees_keep watcher Holds keeps ps ts between after rest (keeps before between p t first holds)
-
 module _ {P T S F : Type 0} (g : Grammar P T) (plan : Plan P T) (law : IsPredictive g plan) (watcher : Watcher P T S F)
     (Value : P → Type 0) (making : Making g Value) (looks : P → T → S → S) (effect : (p : P) → Value p → S → S)
     (agrees : (before after : S) (p : P) (t : T) → watcher.sees before p t after → after ≡ looks p t before)
@@ -58,7 +48,7 @@ module _ {P T S F : Type 0} (g : Grammar P T) (plan : Plan P T) (law : IsPredict
   tells_part p choice values ts (takers, taken, tells) = (
     takers,
     part (element (g.alternatives p) choice) (element_among (g.alternatives p) choice)
-    (subst (λ row. Taken g true row ts takers) (sym (append-nil (element (g.alternatives p) choice))) taken),
+        (subst (λ row. Taken g true row ts takers) (sym (append-nil (element (g.alternatives p) choice))) taken),
     λ before after seen. tells before after seen ∙
         (sym (tells_row_of p (element (g.alternatives p) choice) values before) ∙ telling.row p choice values before),
   )

@@ -1,11 +1,9 @@
-ghost use Rattle.std.specs.Prelude.{◌≡◌, List};
+ghost use Rattle.std.specs.Prelude.{◌≡◌};
 ghost use Rattle.token_grammar.specs.Grammar.{Grammar};
 ghost use Rattle.token_grammar.specs.Plan.{Plan, IsPredictive};
 ghost use Rattle.token_grammar.specs.Watch.{Watcher};
 ghost use Rattle.token_grammar.specs.Making.{Making};
 ghost use Rattle.token_grammar.specs.Building.{IsBuilding};
-ghost use Rattle.token_grammar.specs.SpelledAs.{SpelledAs};
-ghost use Rattle.token_grammar.specs.Answers.{IsAccepted};
 
 /// A grammar whose watcher is told by the values: where it finds no fault in a part's tokens, it goes on to the effect of the
 /// part's value. `Store` is what the makings look at.
@@ -42,10 +40,3 @@ pub trait Told {
     ghost telling: { (store : Store) →
         IsBuilding grammar Value (making store) (looks store) (λ p seen. seen) (effect store) };
 }
-
-/// What the watcher has seen of a text is the effect of the value that the text's tokens spell.
-pub fn seen_is_told<W: Told>()
-    ensures { (store : W.Store) (start : W.Part) (before after : W.Seen) (ts : List W.Token) (value : W.Value start) →
-        IsAccepted W.grammar W.watcher start before ts after →
-        SpelledAs W.grammar W.Value (W.making store) start value ts → after ≡ W.effect store start value before }
-{}

@@ -3,7 +3,7 @@ use Rattle.std.proofs.Common.{◌≡◌, refl, ℕ, ◌+◌, ◌-◌, ◌<◌, �
 use Rattle.std.specs.Prelude.{nat_lt, Ok, Err}
 use Rattle.std.proofs.lemmas.Bool.{ltb-true}
 use Rattle.token_grammar.specs.Answers.{IsAccepted}
-use Rattle.token_grammar.proofs.Telling.{sees_keep}
+use Rattle.token_grammar.proofs.Laws.{sees_keep}
 use Rattle.token_grammar_examples.specs.declared.expression.Expression.{Expression}
 use Rattle.token_grammar_examples.specs.declared.mark.Mark as Mark
 use Rattle.token_grammar_examples.specs.declared.watch.TheConstants.{MOST_LEVELS, MOST_MARKS}

@@ -3,7 +3,7 @@ use Rattle.std.specs.Prelude.{◌≡◌, List, [], ◌∷◌, ◌++◌, IsTrue}
 use Rattle.std.proofs.Common.{refl, sym, ap, append_assoc, append-nil}
 use Rattle.std.proofs.lemmas.Bool.{false≢true}
 use Rattle.token_grammar.specs.Building.{IsBuilding, RowLaws}
-use Rattle.token_grammar.proofs.Built.{building_by}
+use Rattle.token_grammar.proofs.Laws.{building_by}
 use Rattle.token_grammar_examples.specs.declared.expression.Expression.{Expression}
 use Rattle.token_grammar_examples.specs.declared.expression.Expression.TheVariants as value
 use Rattle.token_grammar_examples.specs.declared.builder.ExpressionBuilder.{ExpressionBuilder}

@@ -5,7 +5,7 @@ use Rattle.std.proofs.lemmas.Bool.{false≢true}
 use mathlib.Core.Former.{arity, list, this}
 use denote.Hole.Carrier.{hidden}
 use Rattle.token_grammar.specs.Building.{IsBuilding, RowLaws}
-use Rattle.token_grammar.proofs.Built.{building_by}
+use Rattle.token_grammar.proofs.Laws.{building_by}
 use Rattle.token_grammar_examples.specs.declared.expression.Expression.{Expression, Number, Negated, Sum, Row as RowOf, Negated', Sum', Row', Row_of-Expression, end_of-Expression, more_of-Expression}
 use Rattle.token_grammar_examples.specs.declared.expression.Expression.TheBlock.{shape-the_row-Expression-0, hidden-the_row-Expression-0, shape-the_row-Expression-1, hidden-the_row-Expression-1}
 use Rattle.token_grammar_examples.specs.declared.watch.TheConstants.{MOST_LEVELS, MOST_MARKS}

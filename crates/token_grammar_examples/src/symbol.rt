@@ -70,7 +70,7 @@ impl Part for Symbol {
 
     type Fault = Fault;
 
-    ghost use Rattle.token_grammar.proofs.Decided.{computed_decided};
+    ghost use Rattle.token_grammar.proofs.Laws.{computed_decided};
     ghost use Rattle.token_grammar_examples.specs.declared.watch.Count.{Count};
     ghost use Rattle.token_grammar_examples.specs.Grammar.{expressions, expression_plan};
     ghost use Rattle.token_grammar_examples.specs.GrammarLaw.{expression_law};

@@ -2,14 +2,16 @@ ghost use Rattle.std.specs.Prelude.{◌≡◌, ◌↔◌, Bool, true, false, Lis
 ghost use Rattle.token_grammar.specs.Grammar.{IsText, BeginsText};
 ghost use Rattle.token_grammar.specs.Taken.{Taken};
 ghost use Rattle.token_grammar.specs.SpelledAs.{SpelledAs};
-ghost use Rattle.token_grammar.specs.Answers.{IsAnswer, AreOne};
+ghost use Rattle.token_grammar.specs.Answers.{IsAccepted, IsAnswer, AreOne};
 ghost use Rattle.token_grammar.specs.declared.refusal.Refusal.{Refusal};
 
 use crate::builder::Builder;
+use crate::factored::Factored;
 use crate::part::Part;
 use crate::source::Source;
+use crate::told::Told;
 
-/// The answers exclude each other: two answers for the same tokens are one answer, place, last part and fault included,
+/// The answers exclude each other: two answers for the same tokens are one answer, number, last part and fault included,
 /// where neither is want of memory.
 pub fn answers_agree<P: Part>()
     ensures { (start : P) (before a b : P.Seen) (ts : List P.Token) (first second : Result (Unit {0}) (Refusal P P.Fault)) →
@@ -46,4 +48,17 @@ pub fn texts_have_one_value<P: Part, S: Source<P::Token>, B: Builder<P, S>>()
     ensures one { (tokens : S) (start : P) (ts : List P.Token) (first second : B.Value start) →
         SpelledAs B.grammar B.Value (B.making tokens) start first ts →
         SpelledAs B.grammar B.Value (B.making tokens) start second ts → first ≡ second }
+{}
+
+/// What the watcher has seen of a text is the effect of the value that the text's tokens spell.
+pub fn seen_is_told<W: Told>()
+    ensures { (store : W.Store) (start : W.Part) (before after : W.Seen) (ts : List W.Token) (value : W.Value start) →
+        IsAccepted W.grammar W.watcher start before ts after →
+        SpelledAs W.grammar W.Value (W.making store) start value ts → after ≡ W.effect store start value before }
+{}
+
+/// The factored grammar spells and begins the same tokens as the printed one.
+pub fn factored_agrees<F: Factored>()
+    ensures texts { (ts : List F.Token) → IsText F.printed F.printed_start ts ↔ IsText F.grammar F.start ts }
+    ensures beginnings { (ts : List F.Token) → BeginsText F.printed F.printed_start ts ↔ BeginsText F.grammar F.start ts }
 {}

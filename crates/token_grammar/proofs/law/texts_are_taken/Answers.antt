@@ -1,5 +1,5 @@
 use Rattle.token_grammar.proofs.Spelling.{taken_spelled, spelled_taken, taken_begun, begun_taken}
-use Rattle.token_grammar.proofs.laws.texts_are_taken.Goals as goal
+use Rattle.token_grammar.proofs.law.texts_are_taken.Goals as goal
 
 pub returns : goal.returns
 returns g c = record {

@@ -1,5 +1,5 @@
 use Rattle.token_grammar.proofs.Agreement.{one_taking_of_text}
-use Rattle.token_grammar.proofs.laws.takers_agree.Goals as goal
+use Rattle.token_grammar.proofs.law.takers_agree.Goals as goal
 
 pub returns : goal.returns
 returns g c = λ start whole other ts takers others first second.

@@ -2,7 +2,7 @@ use Rattle.std.proofs.Common.{sym, subst}
 use Rattle.token_grammar.specs.Grammar.{IsText}
 use Rattle.token_grammar.proofs.OfValues.{part_value, value_spelled}
 use Rattle.token_grammar.proofs.OneValue.{one_value_of}
-use Rattle.token_grammar.proofs.laws.texts_have_one_value.Goals as goal
+use Rattle.token_grammar.proofs.law.texts_have_one_value.Goals as goal
 
 pub returns : goal.returns
 returns g c = record {

@@ -1,5 +1,5 @@
 use Rattle.token_grammar.proofs.Agreement.{answers_agree}
-use Rattle.token_grammar.proofs.laws.answers_agree.Goals as goal
+use Rattle.token_grammar.proofs.law.answers_agree.Goals as goal
 
 pub returns : goal.returns
 returns g c = λ start before a b ts first second h k.

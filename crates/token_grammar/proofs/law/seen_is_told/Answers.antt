@@ -1,5 +1,5 @@
 use Rattle.token_grammar.proofs.Telling.{seen_value}
-use Rattle.token_grammar.proofs.told.seen_is_told.Goals as goal
+use Rattle.token_grammar.proofs.law.seen_is_told.Goals as goal
 
 pub returns : goal.returns
 returns g c = λ store start before after ts value accepted spelled.

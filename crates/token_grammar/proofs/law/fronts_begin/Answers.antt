@@ -1,5 +1,5 @@
 use Rattle.token_grammar.proofs.Agreement.{text_begins, front_begins}
-use Rattle.token_grammar.proofs.laws.fronts_begin.Goals as goal
+use Rattle.token_grammar.proofs.law.fronts_begin.Goals as goal
 
 pub returns : goal.returns
 returns g c = record {

@@ -1,5 +1,5 @@
 use Rattle.token_grammar.proofs.Translated.{text_translated, begun_translated}
-use Rattle.token_grammar.proofs.factored.factored_agrees.Goals as goal
+use Rattle.token_grammar.proofs.law.factored_agrees.Goals as goal
 
 pub returns : goal.returns
 returns g c =
