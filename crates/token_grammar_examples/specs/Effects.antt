@@ -1,7 +1,6 @@
 -- What the builder of expressions does at a token and at an empty row, and what each value leaves in its registers.
-use Rattle.std.specs.Prelude.{List, [], ◌∷◌, ◌++◌}
+use Rattle.std.specs.Prelude.{[], ◌∷◌, ◌++◌}
 use Rattle.token_grammar.specs.Stacks.{top_or, below}
-use Rattle.token_grammar_examples.specs.declared.expression.Expression.{Expression}
 use Rattle.token_grammar_examples.specs.declared.expression.Expression.TheVariants as value
 use Rattle.token_grammar_examples.specs.declared.builder.ExpressionBuilder.{ExpressionBuilder}
 use Rattle.token_grammar_examples.specs.declared.mark.Mark as Mark
@@ -10,7 +9,7 @@ use Rattle.token_grammar_examples.specs.declared.symbol.Symbol.TheVariants.{Take
 use Rattle.token_grammar_examples.specs.declared.symbol.Taker as Taker
 use Rattle.token_grammar_examples.specs.declared.symbol.Taker.TheVariants.{Number, FirstPlus, OpenRow, CloseRow}
 use Rattle.token_grammar_examples.specs.declared.symbol.Rule as Rule
-use Rattle.token_grammar_examples.specs.declared.symbol.Rule.TheVariants.{Whole, Rest, Join, More, Operand, Negate, Members, Others, Add}
+use Rattle.token_grammar_examples.specs.declared.symbol.Rule.TheVariants.{Whole, Rest, Join, More, Operand, Negate, Atom, Members, Others, Add}
 use Rattle.token_grammar_examples.specs.Values.{RuleValue, Value, number_of, with_rest}
 
 -- the current expression is used up
@@ -73,6 +72,7 @@ passes (Taken taker) b = b
 abbrev pub rule_effect : (rule : Rule.Rule) → RuleValue rule → ExpressionBuilder → ExpressionBuilder
 rule_effect Whole expression b = record b { current = expression }
 rule_effect Operand expression b = record b { current = expression }
+rule_effect Atom expression b = record b { current = expression }
 rule_effect Rest others b = record b { current = with_rest b.current others }
 rule_effect More others b =
     record b { current = value.Sum (b.operands ++ others); operands = top_or [] b.sums; sums = below b.sums }

@@ -1,19 +1,18 @@
 -- What the builder does over each row is the effect of the row's value: a line for each row.
-use Rattle.std.specs.Prelude.{◌≡◌, List, [], ◌∷◌, ◌++◌, IsTrue}
+use Rattle.std.specs.Prelude.{◌≡◌, [], ◌∷◌, IsTrue}
 use Rattle.std.proofs.Common.{refl, sym, ap, append_assoc, append-nil}
 use Rattle.std.proofs.lemmas.Bool.{false≢true}
 use Rattle.token_grammar.specs.Building.{IsBuilding, RowLaws}
 use Rattle.token_grammar.proofs.Laws.{building_by}
-use Rattle.token_grammar_examples.specs.declared.expression.Expression.{Expression}
 use Rattle.token_grammar_examples.specs.declared.expression.Expression.TheVariants as value
 use Rattle.token_grammar_examples.specs.declared.builder.ExpressionBuilder.{ExpressionBuilder}
 use Rattle.token_grammar_examples.specs.declared.mark.Mark as Mark
 use Rattle.token_grammar_examples.specs.declared.symbol.Symbol as Symbol
 use Rattle.token_grammar_examples.specs.declared.symbol.Symbol.TheVariants.{Taken, Row}
-use Rattle.token_grammar_examples.specs.declared.symbol.Rule.TheVariants.{Whole, Rest, Join, More, Operand, Negate, Members, Others, Add}
+use Rattle.token_grammar_examples.specs.declared.symbol.Rule.TheVariants.{Whole, Rest, Join, More, Operand, Negate, Atom, Members, Others, Add}
 use Rattle.token_grammar_examples.specs.Grammar.{expressions, takes, alternatives}
 use Rattle.token_grammar_examples.specs.Values.{Value, of_token, makers, expression_making}
-use Rattle.token_grammar_examples.specs.Effects.{acts, passes, effect, rule_effect, cleared, sum_ended}
+use Rattle.token_grammar_examples.specs.Effects.{acts, passes, effect, cleared, sum_ended}
 
 token_law : (p : Symbol.Symbol) (t : Mark.Mark) (taken : IsTrue (takes p t)) (b : ExpressionBuilder) →
     acts p t b ≡ effect p (of_token p t taken) b
@@ -33,7 +32,8 @@ row_laws (Row More) = (
     tt,
   ),
 )
-row_laws (Row Operand) = ((λ values b. refl), ((λ values b. refl), ((λ values b. refl), ((λ values b. refl), tt))))
+row_laws (Row Operand) = ((λ values b. refl), ((λ values b. refl), tt))
+row_laws (Row Atom) = ((λ values b. refl), ((λ values b. refl), ((λ values b. refl), tt)))
 row_laws (Row Negate) = ((λ values b. refl), tt)
 row_laws (Row Members) = (
   (λ values b. ap (λ list. record (cleared b) { members = list }) (sym (append-nil b.members))),

@@ -2,7 +2,8 @@
 --   whole   ::= operand rest
 --   rest    ::= nothing | `+` operand join more
 --   more    ::= nothing | `+` operand join more
---   operand ::= number | `-` operand negate | `(` whole `)` | `[` members `]`
+--   operand ::= atom | `-` atom negate
+--   atom    ::= number | `(` whole `)` | `[` members `]`
 --   members ::= nothing | whole add others
 --   others  ::= nothing | `,` whole add others
 use Rattle.std.specs.Prelude.{Bool, true, false, List, [], ◌∷◌}
@@ -16,7 +17,7 @@ use Rattle.token_grammar_examples.specs.declared.symbol.Symbol.TheVariants.{Take
 use Rattle.token_grammar_examples.specs.declared.symbol.Taker as Taker
 use Rattle.token_grammar_examples.specs.declared.symbol.Taker.TheVariants.{Number, Minus, FirstPlus, NextPlus, Open, Close, OpenRow, CloseRow, Comma}
 use Rattle.token_grammar_examples.specs.declared.symbol.Rule as Rule
-use Rattle.token_grammar_examples.specs.declared.symbol.Rule.TheVariants.{Whole, Rest, Join, More, Operand, Negate, Members, Others, Add}
+use Rattle.token_grammar_examples.specs.declared.symbol.Rule.TheVariants.{Whole, Rest, Join, More, Operand, Negate, Atom, Members, Others, Add}
 
 -- which token is taken
 abbrev pub taker_takes : Taker.Taker → Mark.Mark → Bool
@@ -42,10 +43,10 @@ rows Whole = (Row Operand ∷ Row Rest ∷ []) ∷ []
 rows Rest = [] ∷ (Taken FirstPlus ∷ Row Operand ∷ Row Join ∷ Row More ∷ []) ∷ []
 rows Join = [] ∷ []
 rows More = [] ∷ (Taken NextPlus ∷ Row Operand ∷ Row Join ∷ Row More ∷ []) ∷ []
-rows Operand =
-    (Taken Number ∷ []) ∷ (Taken Minus ∷ Row Operand ∷ Row Negate ∷ []) ∷ (Taken Open ∷ Row Whole ∷ Taken Close ∷ []) ∷
-    (Taken OpenRow ∷ Row Members ∷ Taken CloseRow ∷ []) ∷ []
+rows Operand = (Row Atom ∷ []) ∷ (Taken Minus ∷ Row Atom ∷ Row Negate ∷ []) ∷ []
 rows Negate = [] ∷ []
+rows Atom =
+    (Taken Number ∷ []) ∷ (Taken Open ∷ Row Whole ∷ Taken Close ∷ []) ∷ (Taken OpenRow ∷ Row Members ∷ Taken CloseRow ∷ []) ∷ []
 rows Members = [] ∷ (Row Whole ∷ Row Add ∷ Row Others ∷ []) ∷ []
 rows Others = [] ∷ (Taken Comma ∷ Row Whole ∷ Row Add ∷ Row Others ∷ []) ∷ []
 rows Add = [] ∷ []

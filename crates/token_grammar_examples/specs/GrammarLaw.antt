@@ -6,7 +6,7 @@ use Rattle.token_grammar_examples.specs.declared.mark.Mark as Mark
 use Rattle.token_grammar_examples.specs.declared.mark.Mark.TheVariants as mark
 use Rattle.token_grammar_examples.specs.declared.symbol.Symbol as Symbol
 use Rattle.token_grammar_examples.specs.declared.symbol.Symbol.TheVariants.{Taken, Row}
-use Rattle.token_grammar_examples.specs.declared.symbol.Rule.TheVariants.{Whole, Rest, Join, More, Operand, Negate, Members, Others, Add}
+use Rattle.token_grammar_examples.specs.declared.symbol.Rule.TheVariants.{Whole, Rest, Join, More, Operand, Negate, Atom, Members, Others, Add}
 use Rattle.token_grammar_examples.specs.Grammar.{expressions, expression_plan}
 
 part_law : (p : Symbol.Symbol) → IsTrue (part_test expressions expression_plan p)
@@ -22,6 +22,7 @@ token_law (Row Join) mark.Plus = refl
 token_law (Row More) mark.Plus = refl
 token_law (Row Operand) mark.Plus = refl
 token_law (Row Negate) mark.Plus = refl
+token_law (Row Atom) mark.Plus = refl
 token_law (Row Members) mark.Plus = refl
 token_law (Row Others) mark.Plus = refl
 token_law (Row Add) mark.Plus = refl

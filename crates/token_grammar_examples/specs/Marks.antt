@@ -1,15 +1,15 @@
 -- How many numbers and rows an expression has, and how the watcher's count is told by the values.
-use Rattle.std.specs.Prelude.{ℕ, ◌+◌, ◌-◌, List, [], ◌∷◌}
+use Rattle.std.specs.Prelude.{ℕ, ◌+◌, List, [], ◌∷◌}
 use Rattle.token_grammar_examples.specs.declared.expression.Expression.{Expression, Number, Negated', Sum', Row', Row_of-Expression, end_of-Expression, more_of-Expression}
 use Rattle.token_grammar_examples.specs.declared.watch.Count.{Count}
 use Rattle.token_grammar_examples.specs.declared.mark.Mark as Mark
 use Rattle.token_grammar_examples.specs.declared.symbol.Symbol as Symbol
 use Rattle.token_grammar_examples.specs.declared.symbol.Symbol.TheVariants.{Taken, Row}
-use Rattle.token_grammar_examples.specs.declared.symbol.Taker as Taker
 use Rattle.token_grammar_examples.specs.declared.symbol.Taker.TheVariants as taker
 use Rattle.token_grammar_examples.specs.declared.symbol.Rule as Rule
-use Rattle.token_grammar_examples.specs.declared.symbol.Rule.TheVariants.{Whole, Rest, Join, More, Operand, Negate, Members, Others, Add}
+use Rattle.token_grammar_examples.specs.declared.symbol.Rule.TheVariants.{Whole, Rest, Join, More, Operand, Negate, Atom, Members, Others, Add}
 use Rattle.token_grammar_examples.specs.Values.{RuleValue, Value}
+use Rattle.token_grammar_examples.specs.Watching.{closed}
 
 abbrev mutual
   -- the numbers and rows of an expression
@@ -35,14 +35,17 @@ with_more n count = record count { marks = count.marks + n }
 -- what the watcher goes on to where it finds no fault
 abbrev pub looks : Symbol.Symbol → Mark.Mark → Count → Count
 looks (Taken taker.Number) t count = with_more 1 count
+looks (Taken taker.Open) t count = record count { level = count.level + 1 }
 looks (Taken taker.OpenRow) t count = record count { marks = count.marks + 1; level = count.level + 1 }
-looks (Taken taker.CloseRow) t count = record count { level = count.level - 1 }
+looks (Taken taker.Close) t count = closed count
+looks (Taken taker.CloseRow) t count = closed count
 looks _ t count = count
 
 -- how many more a rule's value has
 abbrev pub marks_of : (rule : Rule.Rule) → RuleValue rule → ℕ
 marks_of Whole expression = marks_in expression
 marks_of Operand expression = marks_in expression
+marks_of Atom expression = marks_in expression
 marks_of Rest list = marks_in_list list
 marks_of More list = marks_in_list list
 marks_of Members list = marks_in_list list

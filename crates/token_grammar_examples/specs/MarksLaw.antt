@@ -1,25 +1,26 @@
 -- The watcher's count is told by the values: a line for each row.
-use Rattle.std.specs.Prelude.{◌≡◌, ℕ, ◌+◌, ◌-◌, ◌≤◌, Bool, true, false, nat_lt, List, [], ◌∷◌, IsTrue, Result, Ok, Err}
+use Rattle.std.specs.Prelude.{◌≡◌, ℕ, ◌+◌, ◌-◌, ◌<◌, Bool, true, false, nat_lt, List, [], ◌∷◌, IsTrue, Result, Ok, Err}
 use Rattle.std.proofs.Common.{refl, sym, ◌∙◌, ap, arith, cond}
-use Rattle.std.proofs.lemmas.Bool.{false≢true}
-use mathlib.Core.Former.{arity, list, this}
+use Rattle.std.proofs.lemmas.Bool.{false≢true, ltb-true}
+use mathlib.Core.Former.{list}
 use denote.Hole.Carrier.{hidden}
 use Rattle.token_grammar.specs.Building.{IsBuilding, RowLaws}
 use Rattle.token_grammar.proofs.Laws.{building_by}
-use Rattle.token_grammar_examples.specs.declared.expression.Expression.{Expression, Number, Negated, Sum, Row as RowOf, Negated', Sum', Row', Row_of-Expression, end_of-Expression, more_of-Expression}
-use Rattle.token_grammar_examples.specs.declared.expression.Expression.TheBlock.{shape-the_row-Expression-0, hidden-the_row-Expression-0, shape-the_row-Expression-1, hidden-the_row-Expression-1}
+use Rattle.token_grammar_examples.specs.declared.expression.Expression.{Expression, Negated, Row as RowOf}
+use Rattle.token_grammar_examples.specs.declared.expression.Expression.TheBlock.{hidden-the_row-Expression-0, hidden-the_row-Expression-1}
 use Rattle.token_grammar_examples.specs.declared.watch.TheConstants.{MOST_LEVELS, MOST_MARKS}
 use Rattle.token_grammar_examples.specs.declared.watch.Count.{Count}
+use Rattle.token_grammar_examples.specs.declared.watch.Fault.{Fault}
 use Rattle.token_grammar_examples.specs.declared.watch.Fault.TheVariants.{TooMany, TooDeep}
 use Rattle.token_grammar_examples.specs.declared.mark.Mark as Mark
 use Rattle.token_grammar_examples.specs.declared.mark.Mark.TheVariants as mark
 use Rattle.token_grammar_examples.specs.declared.symbol.Symbol as Symbol
 use Rattle.token_grammar_examples.specs.declared.symbol.Symbol.TheVariants.{Taken, Row}
 use Rattle.token_grammar_examples.specs.declared.symbol.Taker.TheVariants as taker
-use Rattle.token_grammar_examples.specs.declared.symbol.Rule.TheVariants.{Whole, Rest, Join, More, Operand, Negate, Members, Others, Add}
+use Rattle.token_grammar_examples.specs.declared.symbol.Rule.TheVariants.{Whole, Rest, Join, More, Operand, Negate, Atom, Members, Others, Add}
 use Rattle.token_grammar_examples.specs.Grammar.{expressions, takes, alternatives}
 use Rattle.token_grammar_examples.specs.Values.{Value, of_token, makers, with_rest, number_of, expression_making}
-use Rattle.token_grammar_examples.specs.Watching.{look, counted}
+use Rattle.token_grammar_examples.specs.Watching.{look, counted, opened, opened_after, row_opened}
 use Rattle.token_grammar_examples.specs.Marks.{marks_in, marks_in_each, marks_in_list, with_more, looks, seen_effect}
 
 -- the marks of a list of expressions that stands in a row
@@ -70,13 +71,20 @@ negated_law operand count =
     same_count ((count.marks + marks_in operand) + 0) (count.marks + marks_in (Negated operand)) count.level
     (rw (negated_marks operand) (omega arith))
 
+-- what has opened is closed
+closes : (count : Count) → count_of count.marks ((count.level + 1) - 1) ≡ count
+closes count = ap (count_of count.marks) (let same : (count.level + 1) - 1 ≡ count.level = omega arith in same)
+
+bracket_law : (n : ℕ) (count : Count) →
+    looks (Taken taker.Close) mark.Close (with_more n (looks (Taken taker.Open) mark.Open count)) ≡ with_more n count
+bracket_law n count = closes (with_more n count)
+
 row_law : (list : List Expression) (count : Count) →
     looks (Taken taker.CloseRow) mark.CloseRow (with_more (marks_in_list list) (looks (Taken taker.OpenRow) mark.OpenRow count)) ≡
     with_more (marks_in (RowOf list)) count
 row_law list count =
     same_count ((count.marks + 1) + marks_in_list list) (count.marks + marks_in (RowOf list)) ((count.level + 1) - 1)
-    (rw (row_marks list) (omega arith)) ∙
-    ap (count_of (count.marks + marks_in (RowOf list))) (let same : (count.level + 1) - 1 ≡ count.level = omega arith in same)
+    (rw (row_marks list) (omega arith)) ∙ closes (with_more (marks_in (RowOf list)) count)
 
 marks_rows : (p : Symbol.Symbol) → RowLaws Value seen_effect (λ p seen. seen) p (alternatives p) (makers p)
 marks_rows (Taken taker) = tt
@@ -86,14 +94,12 @@ marks_rows (Row Rest) =
 marks_rows (Row Join) = ((λ values count. nothing_more count), tt)
 marks_rows (Row More) =
     ((λ values count. nothing_more count), ((λ values count. listed count (marks_in values.1.0) (marks_in_list values.1.1.1.0)), tt))
-marks_rows (Row Operand) = (
-  (λ values count. ap (λ n. with_more n count) (sym (number_marks values.0))),
-  (
-    (λ values count. negated_law values.1.0 count),
-    ((λ values count. refl), ((λ values count. row_law values.1.0 count), tt)),
-  ),
-)
+marks_rows (Row Operand) = ((λ values count. refl), ((λ values count. negated_law values.1.0 count), tt))
 marks_rows (Row Negate) = ((λ values count. nothing_more count), tt)
+marks_rows (Row Atom) = (
+  (λ values count. ap (λ n. with_more n count) (sym (number_marks values.0))),
+  ((λ values count. bracket_law (marks_in values.1.0) count), ((λ values count. row_law values.1.0 count), tt)),
+)
 marks_rows (Row Members) =
     ((λ values count. nothing_more count), ((λ values count. listed count (marks_in values.0) (marks_in_list values.1.1.0)), tt))
 marks_rows (Row Others) =
@@ -108,19 +114,40 @@ marks_tokens (Row rule) t taken count = absurd (false≢true taken)
 pub marks_telling : IsBuilding expressions Value expression_making looks (λ p seen. seen) seen_effect
 marks_telling = building_by expressions Value of_token makers looks (λ p seen. seen) seen_effect marks_tokens marks_rows
 
--- a mark that is counted, by the tests for its count and for its level
-counted_once : (some deep : Bool) (next after : Count) → cond some (cond deep (Err TooDeep) (Ok next)) (Err TooMany) ≡ Ok after →
-    after ≡ next
-counted_once true true next after e = cc
-counted_once true false next after e = cc
-counted_once false deep next after e = cc
+-- a count that goes on is within the bound, and grows by one
+pub counted_is : (before after : Count) → counted before ≡ Ok after → (before.marks < MOST_MARKS) × (after ≡ with_more 1 before)
+counted_is before after e = by_test (nat_lt before.marks MOST_MARKS) refl e
+  where
+    by_test : (less : Bool) → nat_lt before.marks MOST_MARKS ≡ less → cond less (Ok (with_more 1 before)) (Err TooMany) ≡ Ok after →
+        (before.marks < MOST_MARKS) × (after ≡ with_more 1 before)
+    by_test true less e = (ltb-true before.marks MOST_MARKS less, cc)
+    by_test false less e = cc
+
+pub opened_is : (before after : Count) → opened before ≡ Ok after → after ≡ record before { level = before.level + 1 }
+opened_is before after e = by_test (nat_lt before.level MOST_LEVELS) e
+  where
+    by_test : (less : Bool) → cond less (Ok (record before { level = before.level + 1 })) (Err TooDeep) ≡ Ok after →
+        after ≡ record before { level = before.level + 1 }
+    by_test true e = cc
+    by_test false e = cc
+
+-- a row that opens is counted before
+pub row_opened_is : (before after : Count) → row_opened before ≡ Ok after →
+    (between : Count) × (counted before ≡ Ok between) × (opened between ≡ Ok after)
+row_opened_is before after e = by_count (counted before) refl e
+  where
+    by_count : (outcome : Result Count Fault) → counted before ≡ outcome → opened_after outcome ≡ Ok after →
+        (between : Count) × (counted before ≡ Ok between) × (opened between ≡ Ok after)
+    by_count (Ok between) is e = (between, is, e)
+    by_count (Err fault) is e = cc
 
 -- where the watcher finds no fault it goes on so
 pub looks_agrees : (before after : Count) (p : Symbol.Symbol) (t : Mark.Mark) → look before p t ≡ Ok after → after ≡ looks p t before
-looks_agrees before after (Taken taker.Number) t e =
-    counted_once (nat_lt before.marks MOST_MARKS) (nat_lt MOST_LEVELS before.level) _ after e
+looks_agrees before after (Taken taker.Number) t e = (counted_is before after e).1
+looks_agrees before after (Taken taker.Open) t e = opened_is before after e
 looks_agrees before after (Taken taker.OpenRow) t e =
-    counted_once (nat_lt before.marks MOST_MARKS) (nat_lt MOST_LEVELS (before.level + 1)) _ after e
+    let (between, counts, opens) = row_opened_is before after e in
+    opened_is between after opens ∙ ap (λ (count : Count). record count { level = count.level + 1 }) (counted_is before between counts).1
+looks_agrees before after (Taken taker.Close) t e = cc
 looks_agrees before after (Taken taker.CloseRow) t e = cc
-looks_agrees before after (Taken taker.Minus) t e = cc
 looks_agrees before after _ t e = cc

@@ -1,5 +1,5 @@
 -- The values of the grammar's parts, and how they are made: a line for each row.
-use Rattle.std.specs.Prelude.{Bool, List, [], ◌∷◌, IsTrue}
+use Rattle.std.specs.Prelude.{List, [], ◌∷◌, IsTrue}
 use Rattle.std.proofs.lemmas.Bool.{false≢true}
 use Rattle.token_grammar.specs.Making.{Making}
 use Rattle.token_grammar.specs.Productions.{Makers, making_by}
@@ -10,13 +10,14 @@ use Rattle.token_grammar_examples.specs.declared.mark.Mark.TheVariants as mark
 use Rattle.token_grammar_examples.specs.declared.symbol.Symbol as Symbol
 use Rattle.token_grammar_examples.specs.declared.symbol.Symbol.TheVariants.{Taken, Row}
 use Rattle.token_grammar_examples.specs.declared.symbol.Rule as Rule
-use Rattle.token_grammar_examples.specs.declared.symbol.Rule.TheVariants.{Whole, Rest, Join, More, Operand, Negate, Members, Others, Add}
-use Rattle.token_grammar_examples.specs.Grammar.{expressions, takes, rows, alternatives}
+use Rattle.token_grammar_examples.specs.declared.symbol.Rule.TheVariants.{Whole, Rest, Join, More, Operand, Negate, Atom, Members, Others, Add}
+use Rattle.token_grammar_examples.specs.Grammar.{expressions, takes, alternatives}
 
 -- the values of each rule
 abbrev pub RuleValue : Rule.Rule → Type 0
 RuleValue Whole = Expression
 RuleValue Operand = Expression
+RuleValue Atom = Expression
 RuleValue Rest = List Expression
 RuleValue More = List Expression
 RuleValue Members = List Expression
@@ -51,14 +52,12 @@ makers (Row Whole) = ((λ (first, (rest, end)). with_rest first rest), tt)
 makers (Row Rest) = ((λ none. []), ((λ (plus, (second, (join, (more, end)))). second ∷ more), tt))
 makers (Row Join) = ((λ none. tt), tt)
 makers (Row More) = ((λ none. []), ((λ (plus, (next, (join, (more, end)))). next ∷ more), tt))
-makers (Row Operand) = (
-  (λ (number, end). number_of number),
-  (
-    (λ (minus, (operand, (negate, end))). value.Negated operand),
-    ((λ (bracket, (whole, (close, end))). whole), ((λ (bracket, (members, (close, end))). value.Row members), tt)),
-  ),
-)
+makers (Row Operand) = ((λ (atom, end). atom), ((λ (minus, (atom, (negate, end))). value.Negated atom), tt))
 makers (Row Negate) = ((λ none. tt), tt)
+makers (Row Atom) = (
+  (λ (number, end). number_of number),
+  ((λ (bracket, (whole, (close, end))). whole), ((λ (bracket, (members, (close, end))). value.Row members), tt)),
+)
 makers (Row Members) = ((λ none. []), ((λ (first, (add, (others, end))). first ∷ others), tt))
 makers (Row Others) = ((λ none. []), ((λ (comma, (next, (add, (others, end)))). next ∷ others), tt))
 makers (Row Add) = ((λ none. tt), tt)

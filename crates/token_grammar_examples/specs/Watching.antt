@@ -1,5 +1,5 @@
 -- What the watcher of expressions does at a token.
-use Rattle.std.specs.Prelude.{◌≡◌, ℕ, ◌+◌, ◌-◌, nat_lt, Result, Ok, Err, if◌then◌else◌}
+use Rattle.std.specs.Prelude.{◌≡◌, ◌+◌, ◌-◌, nat_lt, Result, Ok, Err, if◌then◌else◌}
 use Rattle.token_grammar.specs.Watch.{Watcher, watcher_of}
 use Rattle.token_grammar_examples.specs.declared.watch.TheConstants.{MOST_LEVELS, MOST_MARKS}
 use Rattle.token_grammar_examples.specs.declared.watch.Count.{Count}
@@ -8,30 +8,45 @@ use Rattle.token_grammar_examples.specs.declared.watch.Fault.TheVariants.{TooMan
 use Rattle.token_grammar_examples.specs.declared.mark.Mark as Mark
 use Rattle.token_grammar_examples.specs.declared.symbol.Symbol as Symbol
 use Rattle.token_grammar_examples.specs.declared.symbol.Symbol.TheVariants.{Taken}
-use Rattle.token_grammar_examples.specs.declared.symbol.Taker.TheVariants.{Number, OpenRow, CloseRow}
+use Rattle.token_grammar_examples.specs.declared.symbol.Taker.TheVariants.{Number, Open, Close, OpenRow, CloseRow}
 
--- a number, or a row that opens at the level, is counted, or is one too many, or else too deep
-abbrev pub counted : Count → ℕ → Result Count Fault.Fault
-counted count level =
-    if nat_lt count.marks MOST_MARKS then
-    (if nat_lt MOST_LEVELS level then Err TooDeep else Ok (record count { marks = count.marks + 1; level = level }))
-    else Err TooMany
+-- a number or a row is counted, or is one too many
+abbrev pub counted : Count → Result Count Fault.Fault
+counted count = if nat_lt count.marks MOST_MARKS then Ok (record count { marks = count.marks + 1 }) else Err TooMany
 
--- the watcher counts numbers and rows, and how many rows are open
+-- a bracket or a row opens, or is too deep
+abbrev pub opened : Count → Result Count Fault.Fault
+opened count = if nat_lt count.level MOST_LEVELS then Ok (record count { level = count.level + 1 }) else Err TooDeep
+
+abbrev pub opened_after : Result Count Fault.Fault → Result Count Fault.Fault
+opened_after (Ok count) = opened count
+opened_after (Err fault) = Err fault
+
+-- a row is counted, and then it opens
+abbrev pub row_opened : Count → Result Count Fault.Fault
+row_opened count = opened_after (counted count)
+
+-- a bracket or a row ends
+abbrev pub closed : Count → Count
+closed count = record count { level = count.level - 1 }
+
+-- the watcher counts numbers and rows, and how many brackets and rows are open
 abbrev pub look : Count → Symbol.Symbol → Mark.Mark → Result Count Fault.Fault
-look count (Taken Number) t = counted count count.level
-look count (Taken OpenRow) t = counted count (count.level + 1)
-look count (Taken CloseRow) t = Ok (record count { level = count.level - 1 })
+look count (Taken Number) t = counted count
+look count (Taken Open) t = opened count
+look count (Taken OpenRow) t = row_opened count
+look count (Taken Close) t = Ok (closed count)
+look count (Taken CloseRow) t = Ok (closed count)
 look count _ t = Ok count
 
 -- the watcher of expressions
 abbrev pub expression_watcher : Watcher Symbol.Symbol Mark.Mark Count Fault.Fault
 expression_watcher = watcher_of look
 
--- the outcome of counting a number or a row is the one that the watcher's rule gives
-abbrev pub CountsMark : Count → ℕ → Count → Result (Unit {0}) Fault.Fault → Type 0
-CountsMark before level after (Ok _) = counted before level ≡ Ok after
-CountsMark before level after (Err fault) = counted before level ≡ Err fault
+-- the outcome is the one that the watcher's rule gives
+abbrev pub GoesOn : Result Count Fault.Fault → Count → Result (Unit {0}) Fault.Fault → Type 0
+GoesOn outcome after (Ok _) = outcome ≡ Ok after
+GoesOn outcome after (Err fault) = outcome ≡ Err fault
 
 -- what the watcher keeps before the first token
 abbrev pub nothing_seen : Count

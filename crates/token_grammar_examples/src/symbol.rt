@@ -2,7 +2,7 @@ ghost use Rattle.std.specs.Prelude.{◌≡◌};
 
 use crate::mark::Mark;
 use crate::watch::{Count, Fault};
-use Rule::{Add, Join, Members, More, Negate, Operand, Others, Rest, Whole};
+use Rule::{Add, Atom, Join, Members, More, Negate, Operand, Others, Rest, Whole};
 use Symbol::{Row, Taken};
 use Taker::{Close, CloseRow, Comma, FirstPlus, Minus, NextPlus, Number, Open, OpenRow};
 use text_core::Memory;
@@ -51,10 +51,12 @@ pub enum Rule {
     Join,
     /// The operands of a sum after its second.
     More,
-    /// A number, an operand with a sign, an expression in brackets, or a row.
+    /// An atom, or one with its sign changed.
     Operand,
-    /// Nothing, behind an operand with a sign.
+    /// Nothing, behind an atom with its sign changed.
     Negate,
+    /// A number, an expression in brackets, or a row.
+    Atom,
     /// The members of a row.
     Members,
     /// The members of a row after its first.
@@ -112,13 +114,14 @@ impl Part for Symbol {
                 stack,
                 &[Taken(NextPlus), Row(Operand), Row(Join), Row(More)],
             ),
-            (Row(Operand), Mark::Number(_)) => expand(stack, &[Taken(Number)]),
-            (Row(Operand), Mark::Minus) => expand(
+            (Row(Operand), Mark::Number(_) | Mark::Open | Mark::OpenRow) => expand(
                 stack,
-                &[Taken(Minus), Row(Operand), Row(Negate)],
+                &[Row(Atom)],
             ),
-            (Row(Operand), Mark::Open) => expand(stack, &[Taken(Open), Row(Whole), Taken(Close)]),
-            (Row(Operand), Mark::OpenRow) => expand(
+            (Row(Operand), Mark::Minus) => expand(stack, &[Taken(Minus), Row(Atom), Row(Negate)]),
+            (Row(Atom), Mark::Number(_)) => expand(stack, &[Taken(Number)]),
+            (Row(Atom), Mark::Open) => expand(stack, &[Taken(Open), Row(Whole), Taken(Close)]),
+            (Row(Atom), Mark::OpenRow) => expand(
                 stack,
                 &[Taken(OpenRow), Row(Members), Taken(CloseRow)],
             ),
@@ -131,16 +134,17 @@ impl Part for Symbol {
                 &[Taken(Comma), Row(Whole), Row(Add), Row(Others)],
             ),
             (Row(Rest | Join | More | Negate | Members | Others | Add), _) => expand(stack, &[]),
-            (Row(Whole | Operand), _) => Ok(Step::Refuse),
+            (Row(Whole | Operand | Atom), _) => Ok(Step::Refuse),
         }
     }
 
     fn note(self, _token: Mark, watch: &mut Count) -> Result<Result<(), Fault>, Memory> {
         Ok(match self {
-            Taken(Number) => watch.add(watch.level),
-            Taken(OpenRow) => watch.add(watch.level.saturating_add(1)),
-            Taken(CloseRow) => {
-                watch.level = watch.level.saturating_sub(1);
+            Taken(Number) => watch.add(),
+            Taken(Open) => watch.open(),
+            Taken(OpenRow) => watch.open_row(),
+            Taken(Close | CloseRow) => {
+                watch.close();
                 Ok(())
             }
             _ => Ok(()),

@@ -4,7 +4,7 @@ use crate::reader::{expressions_have_one_value, read_expression};
 use crate::symbol::Rule::Whole;
 use crate::symbol::Symbol::{Row, Taken};
 use crate::symbol::Taker::Number;
-use crate::watch::{Count, Fault};
+use crate::watch::{Count, Fault, MOST_LEVELS, MOST_MARKS};
 use std::test::Fail;
 use text_core::List;
 use token_grammar::{Refusal, recognize};
@@ -118,38 +118,30 @@ fn expressions_are_refused(rt: HostRuntime) -> Result<(), Fail> {
 
 #[test]
 fn expressions_are_stopped(rt: HostRuntime) -> Result<(), Fail> {
-    let deep = vec![in rt.alloc(); Mark::OpenRow, Mark::OpenRow, Mark::OpenRow, Mark::OpenRow]?;
+    let deep = vec![in rt.alloc(); Mark::Open, Mark::OpenRow, Mark::OpenRow, Mark::Number(1)]?;
+    let mut count = Count {
+        marks: 0,
+        level: MOST_LEVELS - 2,
+    };
     assert!(rt;
         matches!(
-            read_expression(rt.alloc(), &deep),
+            recognize(rt.alloc(), Row(Whole), &deep, &mut count),
             Err(Refusal::Stopped {
-                number: 3,
+                number: 2,
                 fault: Fault::TooDeep
             })
         )
     );
-    // The ninth number or row is the fourth row that is open.
-    let both = vec![in rt.alloc();
-        Mark::OpenRow,
-        Mark::Number(1),
-        Mark::Comma,
-        Mark::Number(1),
-        Mark::Comma,
-        Mark::Number(1),
-        Mark::Comma,
-        Mark::OpenRow,
-        Mark::Number(1),
-        Mark::Comma,
-        Mark::Number(1),
-        Mark::Comma,
-        Mark::OpenRow,
-        Mark::OpenRow,
-    ]?;
+    // The second row is one row too many, and one level too deep.
+    let mut count = Count {
+        marks: MOST_MARKS - 1,
+        level: MOST_LEVELS - 2,
+    };
     assert!(rt;
         matches!(
-            read_expression(rt.alloc(), &both),
+            recognize(rt.alloc(), Row(Whole), &deep, &mut count),
             Err(Refusal::Stopped {
-                number: 13,
+                number: 2,
                 fault: Fault::TooMany
             })
         )
