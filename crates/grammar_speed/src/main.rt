@@ -55,7 +55,12 @@ fn micros(time: Duration) -> u128 {
 }
 
 // Reads the tokens three times: in a plain pass, by the machine alone, and with the value.
-fn read(rt: &HostRuntime, name: &str, made: Result<Vec<Mark>, Memory>, timed: bool) -> io::Result<()> {
+fn read(
+    rt: &HostRuntime,
+    name: &str,
+    made: Result<Vec<Mark>, Memory>,
+    timed: bool,
+) -> io::Result<()> {
     let Ok(marks) = made else {
         println!(rt; "no memory")?;
         return Ok(());
@@ -92,5 +97,10 @@ fn main(rt: HostRuntime) -> io::Result<()> {
     read(&rt, "sums", sums(rt.alloc(), members), timed)?;
     let members = if timed { 1_000_000 } else { 1_000 };
     read(&rt, "numbers", numbers(rt.alloc(), members), timed)?;
-    read(&rt, "twice as many", numbers(rt.alloc(), 2 * members), timed)
+    read(
+        &rt,
+        "twice as many",
+        numbers(rt.alloc(), 2 * members),
+        timed,
+    )
 }
