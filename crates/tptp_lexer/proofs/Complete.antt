@@ -1,4 +1,4 @@
--- What stands at the front of bytes, by the definitions, is what the scanner's function answers.
+-- What is at the front of bytes, by the definitions, is what the scanner's function answers.
 use Rattle.std.proofs.Common.{◌≡◌, ℕ, ◌+◌, ◌⊎◌, inl, inr, Bool, true, false, not, cond, [], ◌∷◌, ◌++◌, length, refl, ap, sym, ◌∙◌, subst, arith, Some, None, append_assoc, length-append}
 use Rattle.std.specs.Prelude.{bytes_eq}
 use Rattle.std.specs.List.{prefix_len}
@@ -11,7 +11,7 @@ use Rattle.tptp_lexer.specs.declared.quote.QuoteEnd.TheVariants.{Closed, Stray, 
 use Rattle.tptp_lexer.specs.Kinds.{kind_of, is_quoted, is_quoted_word, inside}
 use Rattle.tptp_lexer.specs.Tokens.{is_blank, IsComment, IsLineComment, IsBlockComment, IsLongest, is_end_of_line}
 use Rattle.tptp_lexer.specs.Refused.{BeginsNothing, HasStray, IsOpenQuote, IsOpenComment, IsEmptyQuote, is_quote, begins_comment}
-use Rattle.tptp_lexer.specs.Scanning.{piece_at, piece_from, sign_from, slash_from, quoted_piece, distinct_piece, block_piece, quote_end, block_end, is_not_feed, further}
+use Rattle.tptp_lexer.specs.Scanning.{piece_at, piece_from, other_from, slash_from, quoted_piece, distinct_piece, block_piece, quote_end, block_end, is_not_feed, further}
 use Rattle.tptp_lexer.proofs.Numbers.{and_left, and_right}
 use Rattle.tptp_lexer.proofs.Heads.{empty_kind, blank_kind, percent_kind, slash_kind, single_kind}
 use Rattle.tptp_lexer.proofs.Runs.{stops, counted}
@@ -28,19 +28,19 @@ unfolding piece_from
 blank_piece b bs h = rw h
 
 percent_piece : (bs : Text) → piece_at (37 ∷ bs) ≡ Gap (1 + prefix_len is_not_feed bs)
-unfolding piece_from sign_from
+unfolding piece_from other_from
 percent_piece bs = refl
 
 block_start : (bs : Text) → piece_at (47 ∷ 42 ∷ bs) ≡ block_piece (block_end bs)
-unfolding piece_from sign_from slash_from
+unfolding piece_from other_from slash_from
 block_start bs = refl
 
 single_piece : (bs : Text) → piece_at (39 ∷ bs) ≡ quoted_piece (quote_end 39 bs)
-unfolding piece_from sign_from
+unfolding piece_from other_from
 single_piece bs = refl
 
 double_piece : (bs : Text) → piece_at (34 ∷ bs) ≡ distinct_piece (quote_end 34 bs)
-unfolding piece_from sign_from
+unfolding piece_from other_from
 double_piece bs = refl
 
 line_stops : (rest : Text) → is_end_of_line rest ≡ true → stops is_not_feed rest ≡ true

@@ -1,4 +1,4 @@
--- What a piece says of the bytes at whose front it stands.
+-- What a piece says of the bytes at whose front it is.
 use Rattle.std.proofs.Common.{◌≡◌, ℕ, ◌+◌, ◌==◌, ◌⊎◌, Bool, true, false, cond, [], ◌∷◌, ◌++◌, length, refl, ap, sym, ◌∙◌, Some, None, append_assoc, length-append}
 use Rattle.std.specs.List.{list_all, prefix_len}
 use Rattle.std.proofs.lemmas.Bool.{eqb-true}
@@ -55,8 +55,8 @@ module _ (p : ℕ → Bool) (kind : Kind) (head : Text) (test : (cs : Text) → 
       }
 
 -- a token that does not go on
-pub mark_found : (kind : Kind) (text bs : Text) → kind_of text ≡ Some kind → ((c : ℕ) (cs after : Text) → bs ≡ c ∷ cs ++ after → kind_of (text ++ c ∷ cs) ≡ None) → FoundFront kind (length text) (text ++ bs)
-mark_found kind text bs token longest = record { text = text; rest = bs; split = refl; count = refl; longest = record { token = token; longest = longest } }
+pub token_found : (kind : Kind) (text bs : Text) → kind_of text ≡ Some kind → ((c : ℕ) (cs after : Text) → bs ≡ c ∷ cs ++ after → kind_of (text ++ c ∷ cs) ≡ None) → FoundFront kind (length text) (text ++ bs)
+token_found kind text bs token longest = record { text = text; rest = bs; split = refl; count = refl; longest = record { token = token; longest = longest } }
 
 -- no front is a token where none that holds the first byte is
 pub no_front : (b : ℕ) (bs : Text) → ((cs after : Text) → bs ≡ cs ++ after → kind_of (b ∷ cs) ≡ None) → (text rest : Text) → b ∷ bs ≡ text ++ rest → kind_of text ≡ None

@@ -4,7 +4,7 @@ pub mod Comments
 pub mod Heads
 pub mod Runs
 pub mod Fronts
-pub mod Marks
+pub mod Signs
 pub mod Bodies
 pub mod Blocks
 pub mod Words

@@ -219,7 +219,7 @@ no_escape (b ∷ bs) h = own_first b bs (λ more. (or_false (b == 92) (list_any 
     or_false true t h = absurd (cc)
     or_false false t h = (refl, h)
 
--- the part of a quoted word that stands between its quotes
+-- the part of a quoted word between its quotes
 pub record Quotation (text : Text) : Type 0 where
   pub long : 2 ≤ length text
   pub inner : take (length text - 1 - 1) (drop 1 text) ≡ inside text

@@ -1,4 +1,4 @@
--- Tokens stand in order, each a part of its source.
+-- Tokens are in order, each a part of its source.
 use Rattle.std.proofs.Common.{◌≡◌, ℕ, ◌+◌, ◌-◌, ◌≤◌, List, [], ◌∷◌, ◌++◌, length, take, drop, refl, ap, sym, ◌∙◌, arith}
 use Rattle.std.proofs.lemmas.List.{take_at, drop_at, drop-drop}
 use Rattle.text_core.specs.Names.{Text}

@@ -40,7 +40,7 @@ at_wrong q b c cs n e p = rw (other b q n, eq-eqb b 92 e, p)
 pub at_last : (q b : ℕ) → b ≢ q → b ≡ 92 → quote_end q (b ∷ []) ≡ Open
 at_last q b n e = rw (other b q n, ap is_printable e)
 
--- the end of the bytes, told at a place among them
+-- the end of the bytes, told at an offset among them
 abbrev pub told : ℕ → Text → ℕ → QuoteEnd
 told q bytes at = further at (quote_end q (drop at bytes))
 

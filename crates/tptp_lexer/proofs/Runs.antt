@@ -28,7 +28,7 @@ module _ (p : ℕ → Bool) where
       go true e r = record { run = b ∷ r.run; rest = r.rest; split = ap (λ (xs : Text). b ∷ xs) r.split; all = both (p b) (list_all p r.run) e r.all; count = rw (e, r.count) (omega arith); stopped = r.stopped }
       go false e r = record { run = []; rest = b ∷ bs; split = refl; all = refl; count = rw e; stopped = rw e }
 
-  -- the class ends where another byte stands
+  -- the class ends where another byte is
   pub broken : (run : Text) (b : ℕ) (more : Text) → p b ≡ false → list_all p (run ++ b ∷ more) ≡ false
   broken [] b more e = rw e
   broken (c ∷ cs) b more e = rw (broken cs b more e) (and-false (p c))

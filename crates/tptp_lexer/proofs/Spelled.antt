@@ -43,7 +43,7 @@ pub end_seen : (source : Text) (spans items : List Span) (v : Lexed) (at : ℕ) 
 end_seen source spans items v at d e i h w =
     seen_at end_of source spans items v at d e i h ∙ ap Some (end_is source (get_or items at d) (subst (All (IsWithin source)) (sym i) w at d (let l = ap length (ap (λ (w : Lexed). w.tokens) e) in let m = length-map spans (token_of source) in let n = ap length i in omega arith)))
 
--- the token that stands at a place
+-- the token with a number
 pub token_seen : (source : Text) (spans items : List Span) (v : Lexed) (at : ℕ) (d : Span) → record { source = source; tokens = map (token_of source) spans } ≡ v → items ≡ spans → at < length v.tokens → slice_get v.tokens at ≡ Some (token_of source (get_or items at d))
 token_seen source spans items v at d e i h = sym (ap (λ (ts : List Token). slice_get ts at) (map-id v.tokens)) ∙ seen_at (λ (t : Token). t) source spans items v at d e i h
 
@@ -53,7 +53,7 @@ token_kind source spans items v at d e r i h =
     let text = seen_at (λ (t : Token). t.text) source spans items v at d e i h in
     sym (kind_seen source spans v at (token_of source (get_or items at d)).text e r text) ∙ seen_at (λ (t : Token). t.kind) source spans items v at d e i h
 
--- the tokens from a place on are the one that stands there, and those behind it
+-- the tokens from a number on are the one with this number, and those behind it
 pub first_seen : (ts : List Token) (at : ℕ) (t : Token) → slice_get ts at ≡ Some t → Some (t, drop (at + 1) ts) ≡ first_of (drop at ts)
 first_seen ts at t h = ap (λ (x : Token). Some (x, drop (at + 1) ts)) (sym (get_or_from_slice_get ts at t t h)) ∙ sym (ap first_of (drop_more ts at t (slice_get_within ts at t h)))
 

@@ -12,12 +12,12 @@ use Rattle.tptp_lexer.proofs.Numbers.{by_test, other}
 use Rattle.tptp_lexer.proofs.Heads.{digit_kind, zero_kind, dollar_kind, slash_kind}
 use Rattle.tptp_lexer.proofs.Runs.{Run, run_of, stops}
 use Rattle.tptp_lexer.proofs.Blocks.{BlockMeans, block_means}
-use Rattle.tptp_lexer.proofs.Fronts.{GapFront, FoundFront, Means, run_found, mark_found, no_front}
-use Rattle.tptp_lexer.proofs.Marks.{nil_front}
+use Rattle.tptp_lexer.proofs.Fronts.{GapFront, FoundFront, Means, run_found, token_found, no_front}
+use Rattle.tptp_lexer.proofs.Signs.{nil_front}
 
 pub number_found : (b : ℕ) (bs : Text) → is_digit b ≡ true → FoundFront Integer (natural_len b bs) (b ∷ bs)
 number_found b bs d = by_test (λ n. FoundFront Integer n (b ∷ bs)) (b == 48) 1 (1 + prefix_len is_digit bs)
-    (λ e. rw (eqb-true b 48 e) (mark_found Integer (48 ∷ []) bs (zero_kind []) (λ c cs after s. zero_kind (c ∷ cs))))
+    (λ e. rw (eqb-true b 48 e) (token_found Integer (48 ∷ []) bs (zero_kind []) (λ c cs after s. zero_kind (c ∷ cs))))
     (λ n. run_found is_digit Integer (b ∷ []) (λ cs. digit_kind b cs d n) bs)
 
 natural_head : (b : ℕ) (cs : Text) → is_digit b ≡ true → (b == 48) ≡ false → is_natural (b ∷ cs) ≡ list_all is_digit cs
@@ -26,11 +26,11 @@ natural_head b cs d n = rw (n, d)
 not_natural : (b : ℕ) (cs : Text) → is_digit b ≡ false → is_natural (b ∷ cs) ≡ false
 not_natural b cs d = rw (other b 48 (λ e. absurd (cc (ap is_digit e))), d)
 
--- a sign: what it begins is decided by the number behind it
+-- a plus or a minus: what it begins is decided by the number behind it
 module _ (s : ℕ) (kind : (cs : Text) → kind_of (s ∷ cs) ≡ cond (is_natural cs) (Some Integer) None) where
   signed_found : (b : ℕ) (bs : Text) → is_digit b ≡ true → FoundFront Integer (1 + natural_len b bs) (s ∷ b ∷ bs)
   signed_found b bs d = by_test (λ n. FoundFront Integer (1 + n) (s ∷ b ∷ bs)) (b == 48) 1 (1 + prefix_len is_digit bs)
-      (λ e. rw (eqb-true b 48 e) (mark_found Integer (s ∷ 48 ∷ []) bs (kind (48 ∷ [])) (λ c cs after q. kind (48 ∷ c ∷ cs))))
+      (λ e. rw (eqb-true b 48 e) (token_found Integer (s ∷ 48 ∷ []) bs (kind (48 ∷ [])) (λ c cs after q. kind (48 ∷ c ∷ cs))))
       (λ n. let two : 2 + prefix_len is_digit bs ≡ 1 + (1 + prefix_len is_digit bs) = omega arith in
       subst (λ k. FoundFront Integer k (s ∷ b ∷ bs)) two (run_found is_digit Integer (s ∷ b ∷ []) (λ cs. kind (b ∷ cs) ∙ ap (λ t. cond t (Some Integer) None) (natural_head b cs d n)) bs))
 

@@ -1,4 +1,4 @@
--- The tokens of a text: the longest at each place, with only blanks and comments between them.
+-- The tokens of a text: the longest at each offset, with only blanks and comments between them.
 use Rattle.std.specs.Prelude.{◌≡◌, ℕ, ◌+◌, ◌≤◌, ◌==◌, Bool, true, false, not, ◌&&◌, ◌||◌, if◌then◌else◌, List, [], ◌∷◌, ◌++◌, length, map, slice_range, Some, None, ◌⊎◌}
 use Rattle.std.specs.List.{list_all}
 use Rattle.text_core.specs.Names.{Text}
@@ -6,13 +6,13 @@ use Rattle.tptp_lexer.specs.declared.kind.Kind.{Kind}
 use Rattle.tptp_lexer.specs.declared.kind.Kind.TheVariants.{Lower, Upper, Quoted, Integer}
 use Rattle.tptp_lexer.specs.Kinds.{kind_of, inside, begins_with}
 
--- a token: its kind, the place of its first byte, and its bytes
+-- a token: its kind, the offset of its first byte, and its bytes
 pub record Token : Type 0 where
   pub kind : Kind
   pub start : ℕ
   pub text : Text
 
--- the place behind a token's last byte
+-- the offset behind a token's last byte
 abbrev pub end_of : Token → ℕ
 end_of t = t.start + length t.text
 
@@ -42,16 +42,16 @@ abbrev pub is_end_of_line : Text → Bool
 is_end_of_line [] = true
 is_end_of_line (b ∷ bs) = b == 10
 
--- `*/` (42, 47) stands nowhere in the bytes
+-- `*/` (42, 47) is nowhere in the bytes
 abbrev pub is_unclosed : Text → Bool
 is_unclosed [] = true
 is_unclosed (b ∷ bs) = not (b == 42 && begins_with 47 bs) && is_unclosed bs
 
--- `%` (37) and what stands up to the end of the line, where the rest begins
+-- `%` (37) and what follows up to the end of the line, where the rest begins
 abbrev pub IsLineComment : Text → Text → Type 0
 IsLineComment text rest = (body : Text) × (text ≡ 37 ∷ body) × (is_in_line body ≡ true) × (is_end_of_line rest ≡ true)
 
--- `/*` and what stands up to the first `*/` that stands wholly after it: `/*`, bytes in which none begins, and `*/`
+-- `/*` and what follows up to the first `*/` wholly behind it: `/*`, bytes in which none begins, and `*/`
 abbrev pub IsBlockComment : Text → Type 0
 IsBlockComment text = (body : Text) × (text ≡ 47 ∷ 42 ∷ body ++ 42 ∷ 47 ∷ []) × (is_unclosed (body ++ 42 ∷ []) ≡ true)
 
@@ -64,7 +64,7 @@ pub record IsLongest (kind : Kind) (text rest : Text) : Type 0 where
   pub token : kind_of text ≡ Some kind
   pub longest : (b : ℕ) (more after : Text) → rest ≡ b ∷ more ++ after → kind_of (text ++ b ∷ more) ≡ None
 
--- From a place on the bytes are blanks, comments and these tokens, up to what is left, of which `left` is true.
+-- From an offset on the bytes are blanks, comments and these tokens, up to what is left, of which `left` is true.
 pub data Reads (left : ℕ → Text → Type 0) : ℕ → Text → List Token → Type 0 where
   stop : {at : ℕ} {bytes : Text} → left at bytes → Reads left at bytes []
   blank : {at b : ℕ} {rest : Text} {ts : List Token} → is_blank b ≡ true → Reads left (at + 1) rest ts → Reads left at (b ∷ rest) ts
@@ -79,7 +79,7 @@ IsEnd at bytes = bytes ≡ []
 abbrev pub AreTokens : Text → List Token → Type 0
 AreTokens bytes ts = Reads IsEnd 0 bytes ts
 
--- from a place on each token begins where the one before it ends or behind that, and its text is that part of the bytes
+-- from an offset on each token begins where the one before it ends or behind that, and its text is that part of the bytes
 abbrev pub AreInOrder : ℕ → Text → List Token → Type 0
 AreInOrder from bytes [] = Unit {0}
 AreInOrder from bytes (t ∷ ts) = (from ≤ t.start) × (t.text ≡ slice_range bytes t.start (end_of t)) × AreInOrder (end_of t) bytes ts

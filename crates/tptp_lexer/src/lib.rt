@@ -7,11 +7,11 @@ mod cursor;
 mod kind;
 mod laws;
 mod lexer;
-mod mark;
 mod name;
 mod piece;
 mod quote;
 mod refusal;
+mod sign;
 #[cfg(test)]
 mod tests;
 mod token;
@@ -20,7 +20,7 @@ mod token_list;
 pub use cursor::Cursor;
 pub use kind::Kind;
 pub use laws::{
-    never_tokens_and_refusal, one_first_refused_place, one_list_of_tokens, tokens_in_order,
+    never_tokens_and_refusal, one_first_refusal, one_list_of_tokens, tokens_in_order,
     tokens_or_refusal,
 };
 pub use lexer::tokens;

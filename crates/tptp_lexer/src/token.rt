@@ -4,12 +4,12 @@ ghost use Rattle.tptp_lexer.specs.Tokens as names;
 
 use crate::kind::Kind;
 use crate::name::name_of;
-use text_core::{Memory, Name};
 use std::alloc::Global;
 use std::marker::Model;
+use text_core::{Memory, Name};
 
-/// A token: its kind, the place in its source of its first byte, counted from 0, and its bytes as they stand there. Contracts see
-/// these three.
+/// A token: its kind, the offset of its first byte in its source, counted from 0, and its bytes as they are there.
+/// Contracts see these three.
 #[derive(Debug, Drop)]
 pub struct Token<'a> {
     kind: Kind,
@@ -45,14 +45,14 @@ impl<'a> Token<'a> {
         self.kind
     }
 
-    /// The place in the source of the first byte.
+    /// The offset in the source of the first byte.
     pub fn start(&self) -> u32
         ensures { result ≡ self.now.start }
     {
         self.start
     }
 
-    /// The bytes, as they stand in the source.
+    /// The bytes, as they are in the source.
     pub fn text(&self) -> &'a [u8]
         ensures value { result.now ≡ self.now.text }
         ensures token { kind_of self.now.text ≡ Some self.now.kind }

@@ -1,4 +1,4 @@
--- The marks at a front.
+-- The signs at a front.
 use Rattle.std.proofs.Common.{◌≡◌, ℕ, ◌==◌, inl, Bool, true, false, cond, ◌&&◌, [], ◌∷◌, ◌++◌, refl, Some, None}
 use Rattle.std.proofs.lemmas.Bool.{eqb-true}
 use Rattle.std.proofs.Math.Bool.{and-false}
@@ -8,9 +8,9 @@ use Rattle.tptp_lexer.specs.declared.kind.Kind.TheVariants.{OpenParenthesis, Clo
 use Rattle.tptp_lexer.specs.declared.piece.Piece.{Piece}
 use Rattle.tptp_lexer.specs.declared.piece.Piece.TheVariants.{BadByte}
 use Rattle.tptp_lexer.specs.Kinds.{kind_of, begins_with}
-use Rattle.tptp_lexer.specs.Scanning.{mark_from, long_mark, less_from}
+use Rattle.tptp_lexer.specs.Scanning.{sign_from, long_sign, less_from}
 use Rattle.tptp_lexer.proofs.Numbers.{by_test, and_left, and_right}
-use Rattle.tptp_lexer.proofs.Fronts.{FoundFront, Means, mark_found, no_front, next_is, next_other}
+use Rattle.tptp_lexer.proofs.Fronts.{FoundFront, Means, token_found, no_front, next_is, next_other}
 
 neither : (s t : Bool) → (s && t) ≡ false → cond (s && (t && true)) (Some Xor) None ≡ None
 neither true true h = absurd (cc)
@@ -22,7 +22,7 @@ pub nil_front : (cs after : Text) → [] ≡ cs ++ after → cs ≡ []
 nil_front [] after e = refl
 nil_front (c ∷ cs) after e = absurd (cc)
 
--- `<` with no mark behind it
+-- `<` that begins no sign
 less_none : (c : ℕ) (cs : Text) → (c == 61) ≡ false → (c == 126 && begins_with 62 cs) ≡ false → (ds after : Text) → c ∷ cs ≡ ds ++ after → kind_of (60 ∷ ds) ≡ None
 unfolding kind_of
 less_none c cs n f [] after e = refl
@@ -39,47 +39,47 @@ less_means [] = inl ((refl, refl, refl, no_front 60 [] (λ cs after e. rw (nil_f
 less_means (c ∷ cs) =
     by_test (λ p. Means p (60 ∷ c ∷ cs)) (c == 61) _ _
     (λ e. by_test (λ p. Means p (60 ∷ c ∷ cs)) (begins_with 62 cs) _ _
-    (λ t. let r = next_is 62 cs t in rw (eqb-true c 61 e, r.1) (mark_found Iff (60 ∷ 61 ∷ 62 ∷ []) r.0 refl (λ d ds after s. refl)))
-    (λ f. rw (eqb-true c 61 e) (mark_found Implied (60 ∷ 61 ∷ []) cs refl (λ d ds after s. rw (next_other 62 cs d (ds ++ after) f s)))))
+    (λ t. let r = next_is 62 cs t in rw (eqb-true c 61 e, r.1) (token_found Iff (60 ∷ 61 ∷ 62 ∷ []) r.0 refl (λ d ds after s. refl)))
+    (λ f. rw (eqb-true c 61 e) (token_found Implied (60 ∷ 61 ∷ []) cs refl (λ d ds after s. rw (next_other 62 cs d (ds ++ after) f s)))))
     (λ n. by_test (λ p. Means p (60 ∷ c ∷ cs)) (c == 126 && begins_with 62 cs) _ _
-    (λ t. let r = next_is 62 cs (and_right (c == 126) (begins_with 62 cs) t) in rw (eqb-true c 126 (and_left (c == 126) (begins_with 62 cs) t), r.1) (mark_found Xor (60 ∷ 126 ∷ 62 ∷ []) r.0 refl (λ d ds after s. refl)))
+    (λ t. let r = next_is 62 cs (and_right (c == 126) (begins_with 62 cs) t) in rw (eqb-true c 126 (and_left (c == 126) (begins_with 62 cs) t), r.1) (token_found Xor (60 ∷ 126 ∷ 62 ∷ []) r.0 refl (λ d ds after s. refl)))
     (λ f. inl ((refl, refl, refl, no_front 60 (c ∷ cs) (less_none c cs n f)), refl)))
 
--- what is left to say of a byte that begins no mark
+-- what is left to say of a byte that begins no sign of these
 abbrev pub NoLong : ℕ → Text → Type 0
 NoLong b bs = (b == 33) ≡ false → (b == 126) ≡ false → (b == 61) ≡ false → (b == 60) ≡ false → Means (BadByte 0) (b ∷ bs)
 
-pub long_means : (b : ℕ) (bs : Text) → NoLong b bs → Means (long_mark b bs) (b ∷ bs)
-unfolding kind_of long_mark
+pub long_means : (b : ℕ) (bs : Text) → NoLong b bs → Means (long_sign b bs) (b ∷ bs)
+unfolding kind_of long_sign
 long_means b bs bad =
     by_test (λ p. Means p (b ∷ bs)) (b == 33) _ _
     (λ e. rw (eqb-true b 33 e) (by_test (λ p. Means p (33 ∷ bs)) (begins_with 61 bs) _ _
-    (λ t. let r = next_is 61 bs t in rw r.1 (mark_found NotEqual (33 ∷ 61 ∷ []) r.0 refl (λ d ds after s. refl)))
-    (λ f. mark_found Exclamation (33 ∷ []) bs refl (λ d ds after s. rw (next_other 61 bs d (ds ++ after) f s)))))
+    (λ t. let r = next_is 61 bs t in rw r.1 (token_found NotEqual (33 ∷ 61 ∷ []) r.0 refl (λ d ds after s. refl)))
+    (λ f. token_found Exclamation (33 ∷ []) bs refl (λ d ds after s. rw (next_other 61 bs d (ds ++ after) f s)))))
     (λ n33. by_test (λ p. Means p (b ∷ bs)) (b == 126) _ _
     (λ e. rw (eqb-true b 126 e) (by_test (λ p. Means p (126 ∷ bs)) (begins_with 124 bs) _ _
-    (λ t. let r = next_is 124 bs t in rw r.1 (mark_found Nor (126 ∷ 124 ∷ []) r.0 refl (λ d ds after s. refl)))
+    (λ t. let r = next_is 124 bs t in rw r.1 (token_found Nor (126 ∷ 124 ∷ []) r.0 refl (λ d ds after s. refl)))
     (λ f. by_test (λ p. Means p (126 ∷ bs)) (begins_with 38 bs) _ _
-    (λ t. let r = next_is 38 bs t in rw r.1 (mark_found Nand (126 ∷ 38 ∷ []) r.0 refl (λ d ds after s. refl)))
-    (λ g. mark_found Tilde (126 ∷ []) bs refl (λ d ds after s. rw (next_other 124 bs d (ds ++ after) f s, next_other 38 bs d (ds ++ after) g s))))))
+    (λ t. let r = next_is 38 bs t in rw r.1 (token_found Nand (126 ∷ 38 ∷ []) r.0 refl (λ d ds after s. refl)))
+    (λ g. token_found Tilde (126 ∷ []) bs refl (λ d ds after s. rw (next_other 124 bs d (ds ++ after) f s, next_other 38 bs d (ds ++ after) g s))))))
     (λ n126. by_test (λ p. Means p (b ∷ bs)) (b == 61) _ _
     (λ e. rw (eqb-true b 61 e) (by_test (λ p. Means p (61 ∷ bs)) (begins_with 62 bs) _ _
-    (λ t. let r = next_is 62 bs t in rw r.1 (mark_found Implies (61 ∷ 62 ∷ []) r.0 refl (λ d ds after s. refl)))
-    (λ f. mark_found Equal (61 ∷ []) bs refl (λ d ds after s. rw (next_other 62 bs d (ds ++ after) f s)))))
+    (λ t. let r = next_is 62 bs t in rw r.1 (token_found Implies (61 ∷ 62 ∷ []) r.0 refl (λ d ds after s. refl)))
+    (λ f. token_found Equal (61 ∷ []) bs refl (λ d ds after s. rw (next_other 62 bs d (ds ++ after) f s)))))
     (λ n61. by_test (λ p. Means p (b ∷ bs)) (b == 60) _ _
     (λ e. rw (eqb-true b 60 e) (less_means bs))
     (λ n60. bad n33 n126 n61 n60))))
 
--- a mark of one byte
+-- a sign of one byte
 single : (kind : Kind) (m b : ℕ) (bs : Text) → (b == m) ≡ true → kind_of (m ∷ []) ≡ Some kind → ((c : ℕ) (cs : Text) → kind_of (m ∷ c ∷ cs) ≡ None) → FoundFront kind 1 (b ∷ bs)
-single kind m b bs e token longest = rw (eqb-true b m e) (mark_found kind (m ∷ []) bs token (λ c cs after s. longest c cs))
+single kind m b bs e token longest = rw (eqb-true b m e) (token_found kind (m ∷ []) bs token (λ c cs after s. longest c cs))
 
-abbrev pub NoMark : ℕ → Text → Type 0
-NoMark b bs = (b == 40) ≡ false → (b == 41) ≡ false → (b == 91) ≡ false → (b == 93) ≡ false → (b == 44) ≡ false → (b == 46) ≡ false → (b == 58) ≡ false → (b == 63) ≡ false → (b == 38) ≡ false → (b == 124) ≡ false → NoLong b bs
+abbrev pub NoSign : ℕ → Text → Type 0
+NoSign b bs = (b == 40) ≡ false → (b == 41) ≡ false → (b == 91) ≡ false → (b == 93) ≡ false → (b == 44) ≡ false → (b == 46) ≡ false → (b == 58) ≡ false → (b == 63) ≡ false → (b == 38) ≡ false → (b == 124) ≡ false → NoLong b bs
 
-pub mark_means : (b : ℕ) (bs : Text) → NoMark b bs → Means (mark_from b bs) (b ∷ bs)
-unfolding kind_of mark_from
-mark_means b bs bad =
+pub sign_means : (b : ℕ) (bs : Text) → NoSign b bs → Means (sign_from b bs) (b ∷ bs)
+unfolding kind_of sign_from
+sign_means b bs bad =
     by_test M (b == 40) _ _ (λ e. single OpenParenthesis 40 b bs e refl (λ c cs. refl)) (λ n1.
     by_test M (b == 41) _ _ (λ e. single CloseParenthesis 41 b bs e refl (λ c cs. refl)) (λ n2.
     by_test M (b == 91) _ _ (λ e. single OpenBracket 91 b bs e refl (λ c cs. refl)) (λ n3.
