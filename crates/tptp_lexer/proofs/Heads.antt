@@ -7,7 +7,7 @@ use Rattle.text_core.specs.Names.{Text}
 use Rattle.tptp_lexer.specs.declared.kind.Kind.TheVariants.{Lower, Upper, Quoted, Distinct, Integer, Dollar}
 use Rattle.tptp_lexer.specs.Kinds.{kind_of, kind_among, kinds, is_lower, is_upper, is_digit, is_word, is_natural, is_quoted, is_quoted_word, is_word_from}
 use Rattle.tptp_lexer.specs.Tokens.{is_blank}
-use Rattle.tptp_lexer.proofs.Numbers.{Apart, apart, other}
+use Rattle.tptp_lexer.proofs.Apart.{Apart, apart, number_other}
 
 -- the bytes that begin a sign or a word behind a dollar
 abbrev pub signs_and_dollar : List ℕ
@@ -24,7 +24,7 @@ pub no_head : (b : ℕ) (bs : Text) → Apart b quotes_plus_minus → is_digit b
 no_head b bs a d m = simp (a.0, a.1.0, a.1.1.0, a.1.1.1.0, zero, d, no_sign b bs m)
   where
     zero : (b == 48) ≡ false
-    zero = other b 48 (λ e. absurd (cc (ap is_digit e)))
+    zero = number_other b 48 (λ e. absurd (cc (ap is_digit e)))
 
 pub lower_kind : (b : ℕ) (bs : Text) → is_lower b ≡ true → kind_of (b ∷ bs) ≡ cond (list_all is_word bs) (Some Lower) None
 unfolding kind_of

@@ -1,4 +1,4 @@
-pub mod Numbers
+pub mod Apart
 pub mod Quotes
 pub mod Comments
 pub mod Heads
@@ -20,3 +20,5 @@ pub mod Exact
 pub mod Spelled
 pub mod Names
 pub mod Order
+pub mod Whole
+pub mod Laws

@@ -9,7 +9,8 @@ use Rattle.tptp_lexer.specs.declared.token_list.Span.{Span}
 use Rattle.tptp_lexer.specs.Kinds.{kind_of}
 use Rattle.tptp_lexer.specs.Spans.{token_of, IsWithin}
 use Rattle.tptp_lexer.specs.First.{first_of}
-use Rattle.tptp_lexer.specs.Tokens.{Token, Lexed, Reads, AreTokens, IsEnd, ends_of, stop, blank, comment, token, end_of, kinds_of, texts_of, names_of, named}
+use Rattle.tptp_lexer.specs.Tokens.{Token, Reads, AreTokens, IsEnd, stop, blank, comment, token, named}
+use Rattle.tptp_lexer.specs.Columns.{Lexed, ends_of, end_of, kinds_of, texts_of, names_of}
 
 picked : {X : Type 0} (f : Token → X) (source : Text) (spans : List Span) (at : ℕ) (d : Span) → at < length spans → slice_get (map f (map (token_of source) spans)) at ≡ Some (f (token_of source (get_or spans at d)))
 picked f source [] at d h = absurd (omega arith)

@@ -1,5 +1,5 @@
 -- The token table: which texts are tokens, and of which kind. After the TPTP syntax.
-use Rattle.std.specs.Prelude.{ℕ, ◌-◌, nat_le, ◌==◌, Bool, true, false, not, ◌&&◌, ◌||◌, if◌then◌else◌, List, [], ◌∷◌, ◌++◌, length, take, drop, Option, Some, None, codes, bytes_eq}
+use Rattle.std.specs.Prelude.{ℕ, ◌-◌, ◌==◌, Bool, true, false, not, ◌&&◌, ◌||◌, if◌then◌else◌, List, [], ◌∷◌, ◌++◌, length, take, drop, Option, Some, None, codes, bytes_eq}
 use Rattle.std.specs.List.{list_all}
 use Rattle.text_core.specs.Names.{Text}
 pub use Rattle.text_core.specs.Names.{is_lower, is_upper, is_digit, is_word, is_word_from, is_printable, begins_with}
@@ -18,7 +18,8 @@ is_escapable q b = b == 92 || b == q
 abbrev pub is_body : ℕ → Text → Bool
 is_body q [] = true
 is_body q (b ∷ []) = is_plain q b
-is_body q (b ∷ c ∷ cs) = if b == 92 then is_escapable q c && is_body q cs else is_plain q b && is_body q (c ∷ cs)
+is_body q (b ∷ c ∷ cs) =
+    if b == 92 then is_escapable q c && is_body q cs else is_plain q b && is_body q (c ∷ cs)
 
 -- a text without its first and its last byte
 abbrev pub inside : Text → Text

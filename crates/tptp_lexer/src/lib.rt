@@ -4,8 +4,9 @@
 mod byte;
 mod comment;
 mod cursor;
+mod integer;
 mod kind;
-mod laws;
+mod law;
 mod lexer;
 mod name;
 mod piece;
@@ -18,8 +19,9 @@ mod token;
 mod token_list;
 
 pub use cursor::Cursor;
+pub use integer::is_integer;
 pub use kind::Kind;
-pub use laws::{
+pub use law::{
     never_tokens_and_refusal, one_first_refusal, one_list_of_tokens, tokens_in_order,
     tokens_or_refusal,
 };

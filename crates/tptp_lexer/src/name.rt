@@ -2,6 +2,7 @@ ghost use Rattle.std.specs.Prelude.{◌≡◌, ◌≢◌, ◌<◌, [], true, len
 ghost use Rattle.tptp_lexer.specs.Kinds.{is_body, kind_of};
 ghost use Rattle.tptp_lexer.specs.Scanning.{shown_at};
 ghost use Rattle.tptp_lexer.specs.Tokens as names;
+ghost use Rattle.tptp_lexer.specs.Columns as columns;
 
 use crate::kind::Kind;
 use std::alloc::Global;
@@ -11,7 +12,7 @@ use text_core::{Bytes, Memory, Name};
 /// memory.
 pub(crate) fn name_of(alloc: Global, kind: Kind, text: &[u8]) -> Result<Name, Memory>
     requires token { kind_of text.now ≡ Some kind }
-    requires named { IsTrue (names.is_name kind) }
+    requires named { IsTrue (columns.is_name kind) }
     ensures { IfOk result (λ name. name ≡ names.named kind text.now) }
 {
     match kind {

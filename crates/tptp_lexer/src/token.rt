@@ -1,6 +1,7 @@
 ghost use Rattle.std.specs.Prelude.{◌≡◌, Some, IfOk, IsTrue};
 ghost use Rattle.tptp_lexer.specs.Kinds.{kind_of};
 ghost use Rattle.tptp_lexer.specs.Tokens as names;
+ghost use Rattle.tptp_lexer.specs.Columns as columns;
 
 use crate::kind::Kind;
 use crate::name::name_of;
@@ -63,7 +64,7 @@ impl<'a> Token<'a> {
     /// The name that a word in lower or upper case, a quoted word or an integer is: its bytes, and those between
     /// the quotes of a quoted word, where a backslash stands for the byte behind it. `Memory` is want of memory.
     pub fn name(&self, alloc: Global) -> Result<Name, Memory>
-        requires { IsTrue (names.is_name self.now.kind) }
+        requires { IsTrue (columns.is_name self.now.kind) }
         ensures { IfOk result (λ name. name ≡ names.name_of self.now) }
     {
         name_of(alloc, self.kind, self.text)

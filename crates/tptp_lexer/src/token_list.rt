@@ -1,7 +1,8 @@
 ghost use Rattle.std.specs.Prelude.{◌≡◌, ◌<◌, ◌^◌, length, slice_get, IfOk, IsSomeAnd, IsTrue, All, map};
 ghost use Rattle.tptp_lexer.specs.Kinds.{kind_of};
 ghost use Rattle.tptp_lexer.specs.Spans.{token_of, IsWithin};
-ghost use Rattle.tptp_lexer.specs.Tokens.{AreTokens, kinds_of, starts_of, ends_of, texts_of, names_of, is_name};
+ghost use Rattle.tptp_lexer.specs.Tokens.{AreTokens};
+ghost use Rattle.tptp_lexer.specs.Columns.{kinds_of, starts_of, ends_of, texts_of, names_of, is_name};
 
 use crate::kind::Kind;
 use crate::name::name_of;
@@ -26,7 +27,7 @@ pub struct Tokens<'a> {
 }
 
 impl<'a> Model for Tokens<'a> {
-    ghost use Rattle.tptp_lexer.specs.Tokens.{Lexed};
+    ghost use Rattle.tptp_lexer.specs.Columns.{Lexed};
 
     ghost Value = { Lexed };
 

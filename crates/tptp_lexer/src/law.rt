@@ -3,7 +3,8 @@
 ghost use Rattle.std.specs.Prelude.{◌≡◌, ◌⊎◌, List};
 ghost use Rattle.text_core.specs.Names.{Text};
 ghost use Rattle.tptp_lexer.specs.declared.refusal.LexRefusal.{LexRefusal};
-ghost use Rattle.tptp_lexer.specs.Tokens.{AreInOrder, AreTokens, Token};
+ghost use Rattle.tptp_lexer.specs.Tokens.{AreTokens, Token};
+ghost use Rattle.tptp_lexer.specs.Order.{AreInOrder};
 ghost use Rattle.tptp_lexer.specs.Refused.{LexFault};
 
 /// A text has one list of tokens at most.
