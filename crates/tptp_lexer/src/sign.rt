@@ -1,14 +1,14 @@
 ghost use Rattle.std.specs.Prelude.{◌≡◌};
 ghost use Rattle.tptp_lexer.specs.Scanning as scanning;
 
-use text_core::begins_with;
 use crate::kind::Kind;
 use crate::piece::Piece;
+use text_core::begins_with;
 
-/// The mark that begins with a byte, or that the byte begins nothing.
-#[tactic(auto, unfolding(crate::specs::Scanning::mark_from))]
-pub(crate) fn mark_from(byte: u8, rest: &[u8]) -> Piece
-    ensures { result ≡ scanning.mark_from byte rest.now }
+/// The sign that begins with a byte, or that the byte begins nothing.
+#[tactic(auto, unfolding(crate::specs::Scanning::sign_from))]
+pub(crate) fn sign_from(byte: u8, rest: &[u8]) -> Piece
+    ensures { result ≡ scanning.sign_from byte rest.now }
 {
     match byte {
         b'(' => Piece::Found(Kind::OpenParenthesis, 1),
@@ -21,14 +21,14 @@ pub(crate) fn mark_from(byte: u8, rest: &[u8]) -> Piece
         b'?' => Piece::Found(Kind::Question, 1),
         b'&' => Piece::Found(Kind::Ampersand, 1),
         b'|' => Piece::Found(Kind::Bar, 1),
-        _ => long_mark(byte, rest),
+        _ => long_sign(byte, rest),
     }
 }
 
-/// The mark that begins with a byte and may go on with further ones, or that the byte begins nothing.
-#[tactic(auto, unfolding(crate::specs::Scanning::long_mark))]
-fn long_mark(byte: u8, rest: &[u8]) -> Piece
-    ensures { result ≡ scanning.long_mark byte rest.now }
+/// The sign that begins with a byte and may go on with further ones, or that the byte begins nothing.
+#[tactic(auto, unfolding(crate::specs::Scanning::long_sign))]
+fn long_sign(byte: u8, rest: &[u8]) -> Piece
+    ensures { result ≡ scanning.long_sign byte rest.now }
 {
     match byte {
         b'!' => {
