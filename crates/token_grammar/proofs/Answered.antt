@@ -18,6 +18,7 @@ use Rattle.token_grammar.proofs.Reading.{Reading, reading_start, reading_taken, 
 abbrev HasMove : {P T : Type 0} → Grammar P T → Plan P T → T → List P → Type 0
 HasMove {P = P} g plan t row = (after : List P) × (taker : Option P) × Moves g plan t row after taker
 
+-- the first part of the row was replaced by the alternative that the token asks for
 further_moves : {P T : Type 0} (g : Grammar P T) (plan : Plan P T) (t : T) (p : P) (row alternative after : List P) (taker : Option P) →
     predicted g plan p t ≡ Some alternative → Moves g plan t (alternative ++ row) after taker → Moves g plan t (p ∷ row) after taker
 further_moves g plan t p row alternative after (Some q) chosen (expanded, takes) = (further alternative chosen expanded, takes)
@@ -27,6 +28,7 @@ further_moves g plan t p row alternative after None chosen (stuck, expanded, blo
 module _ {P T : Type 0} (g : Grammar P T) (plan : Plan P T) (law : IsPredictive g plan) (n : ℕ) (t : T)
     (lighter : (row : List P) → weight g plan row < n → HasMove g plan t row) (p : P) (row : List P)
     (light : weight g plan (p ∷ row) < suc n) where
+  -- the first part does not take the token: it asks for an alternative, or for none
   choice_moves : g.takes p t ≡ false → (choice : Option (List P)) → predicted g plan p t ≡ choice → HasMove g plan t (p ∷ row)
   choice_moves fails None e = (row, None, (p ∷ row, here, (fails, e)))
   choice_moves fails (Some alternative) e =
@@ -35,16 +37,19 @@ module _ {P T : Type 0} (g : Grammar P T) (plan : Plan P T) (law : IsPredictive 
       let (after, taker, moves) = lighter (alternative ++ row) (omega arith) in
       (after, taker, further_moves g plan t p row alternative after taker e moves)
 
+  -- a row that is not empty
   first_moves : (test : Bool) → g.takes p t ≡ test → HasMove g plan t (p ∷ row)
   first_moves true e = (row, Some p, (here, e))
   first_moves false e = choice_moves e (predicted g plan p t) refl
 
 module _ {P T : Type 0} (g : Grammar P T) (plan : Plan P T) (law : IsPredictive g plan) where
+  -- a row that weighs less than a number
   light_moves : (n : ℕ) (t : T) (row : List P) → weight g plan row < n → HasMove g plan t row
   light_moves zero t row light = absurd (omega arith)
   light_moves (suc n) t [] light = ([], None, ([], here, tt))
   light_moves (suc n) t (p ∷ row) light = first_moves g plan law n t (light_moves n t) p row light (g.takes p t) refl
 
+  -- each row
   row_moves : (t : T) (row : List P) → HasMove g plan t row
   row_moves t row = light_moves (suc (weight g plan row)) t row (omega arith)
 
@@ -54,6 +59,7 @@ module _ {P T S F : Type 0} (g : Grammar P T) (plan : Plan P T) (watcher : Watch
   abbrev ReadTo : ℕ → List P → S → Option P → Type 0
   ReadTo number row now last = Reading g plan watcher start before (take number ts) row now last
 
+  -- where all tokens are read: the row may stand for no tokens, or not
   end_answered : (number : ℕ) (row : List P) (now : S) (last : Option P) → length ts ≤ number → ReadTo number row now last →
       (empty : Bool) → list_all (is_nullable g) (reverse row) ≡ empty → HasAnswer g watcher start before ts
   end_answered number row now last end r true e = record {
@@ -71,6 +77,7 @@ module _ {P T S F : Type 0} (g : Grammar P T) (plan : Plan P T) (watcher : Watch
     known = λ h. cc;
   }
 
+  -- where one more token is read, by an answer for the tokens behind it
   token_answered : (number : ℕ) (row : List P) (now : S) (last : Option P) (t : T) → slice_get ts number ≡ Some t →
       ReadTo number row now last →
       ((row : List P) (now : S) (last : Option P) → ReadTo (number + 1) row now last → HasAnswer g watcher start before ts) →
@@ -93,6 +100,7 @@ module _ {P T S F : Type 0} (g : Grammar P T) (plan : Plan P T) (watcher : Watch
     }
   ]
 
+  -- where no more than so many tokens are left
   rest_answered : (n number : ℕ) (row : List P) (now : S) (last : Option P) → length ts ≤ number + n → ReadTo number row now last →
       HasAnswer g watcher start before ts
   rest_answered zero number row now last few r =
@@ -105,5 +113,6 @@ module _ {P T S F : Type 0} (g : Grammar P T) (plan : Plan P T) (watcher : Watch
     | inr end ↦ end_answered number row now last end.0 r (list_all (is_nullable g) (reverse row)) refl
   ]
 
+  -- from the first token on
   pub tokens_answered : HasAnswer g watcher start before ts
   tokens_answered = rest_answered (length ts) 0 (start ∷ []) before None (omega arith) (reading_start g plan watcher law start before)

@@ -11,6 +11,7 @@ unwatched_decided = record {
   apart = λ s p t a f h k. k;
 }
 
+-- a result is a value or an error
 result_is : {X E : Type 0} (result : Result X E) → ((x : X) × result ≡ Ok x) ⊎ ((e : E) × result ≡ Err e)
 result_is (Ok x) = inl (x, refl)
 result_is (Err e) = inr (e, refl)
