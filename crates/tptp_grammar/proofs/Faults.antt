@@ -20,12 +20,12 @@ use Rattle.tptp_grammar.specs.Marks.{marks_of}
 use Rattle.tptp_grammar.specs.Texts.{SyntaxFault, IsSyntaxRefusal, IsUnexpectedAt, makes_function}
 use Rattle.tptp_grammar.specs.Told.{Tells, IsMachineRefusal, unexpected, limited}
 
-pub told_function : (lexed : Lexed) (n place : ℕ) (function : Bool) → slice_get (starts_of lexed.tokens) n ≡ Some place →
+told_function : (lexed : Lexed) (n place : ℕ) (function : Bool) → slice_get (starts_of lexed.tokens) n ≡ Some place →
     IsUnexpectedAt (marks_of lexed.tokens) n function → SyntaxFault lexed (unexpected function place)
 told_function lexed n place true at found = (n, at, found)
 told_function lexed n place false at found = (n, at, found)
 
-pub told_limit : (lexed : Lexed) (n place : ℕ) (why : Limit) (after : Bindings) → slice_get (starts_of lexed.tokens) n ≡ Some place →
+told_limit : (lexed : Lexed) (n place : ℕ) (why : Limit) (after : Bindings) → slice_get (starts_of lexed.tokens) n ≡ Some place →
     IsRefused fof_items items_watcher Items [] (marks_of lexed.tokens) after (machine.Stopped n why) → SyntaxFault lexed (limited why place)
 told_limit lexed n place limit.TooDeep after at stopped = (n, at, stopped)
 told_limit lexed n place limit.UnknownRole after at stopped = (n, at, stopped)

@@ -1,5 +1,5 @@
 -- The tokens of a source are a text of items, or they have a refusal.
-use Rattle.std.specs.Prelude.{◌≡◌, ◌≢◌, ℕ, ◌<◌, ◌⊎◌, List, [], length, slice_get, option_map, Some, Result, Ok, Err}
+use Rattle.std.specs.Prelude.{◌≡◌, ◌≢◌, ℕ, ◌<◌, ◌⊎◌, Bool, true, false, List, [], length, slice_get, option_map, Some, Result, Ok, Err}
 use Rattle.std.proofs.Common.{inl, inr, refl, ap, ◌∙◌, arith}
 use Rattle.std.proofs.lemmas.List.{length-map}
 use Rattle.std.proofs.lemmas.Option.{slice_get-map, slice_get_cases}
@@ -11,8 +11,9 @@ use Rattle.token_grammar.specs.declared.refusal.Refusal.{Refusal}
 use Rattle.token_grammar.specs.declared.refusal.Refusal.TheVariants as machine
 use Rattle.token_grammar.proofs.Answered.{tokens_answered}
 use Rattle.token_grammar.proofs.Decided.{computed_decided}
-use Rattle.tptp_lexer.specs.Tokens.{Token, AreTokens, starts_of}
+use Rattle.tptp_lexer.specs.Tokens.{Token, Lexed, AreTokens, starts_of}
 use Rattle.tptp_grammar.specs.declared.limit.Limit.{Limit}
+use Rattle.tptp_grammar.specs.declared.limit.Limit.TheVariants as limit
 use Rattle.tptp_grammar.specs.declared.refusal.SyntaxRefusal.{SyntaxRefusal}
 use Rattle.tptp_grammar.specs.declared.refusal.SyntaxRefusal.TheVariants.{EndOfText}
 use Rattle.tptp_grammar.specs.declared.symbol.Symbol.{Symbol}
@@ -21,10 +22,9 @@ use Rattle.tptp_grammar.specs.Symbols.{fof_items, items_plan}
 use Rattle.tptp_grammar.specs.SymbolsLaw.{items_law}
 use Rattle.tptp_grammar.specs.Limits.{Bindings, items_watcher, look}
 use Rattle.tptp_grammar.specs.Marks.{marks_of, mark_in}
-use Rattle.tptp_grammar.specs.Texts.{AreItemsOf, SyntaxFault, makes_function}
+use Rattle.tptp_grammar.specs.Texts.{AreItemsOf, SyntaxFault, IsUnexpectedAt, IsStoppedAt, makes_function}
 use Rattle.tptp_grammar.specs.Told.{unexpected, limited}
 use Rattle.tptp_grammar.proofs.Accepted.{text_of}
-use Rattle.tptp_grammar.proofs.Faults.{told_function, told_limit}
 
 -- the token whose mark has this number
 token_at : (ts : List Token) (n : ℕ) → n < length (marks_of ts) → (t : Token) × slice_get ts n ≡ Some t
@@ -40,6 +40,19 @@ start_at ts n t at = slice_get-map (λ (t : Token). t.start) ts n ∙ ap (option
 -- the mark of the token with this number
 mark_at : (ts : List Token) (n : ℕ) (t : Token) → slice_get ts n ≡ Some t → slice_get (marks_of ts) n ≡ Some (mark_in ts t)
 mark_at ts n t at = slice_get-map (mark_in ts) ts n ∙ ap (option_map (mark_in ts)) at
+
+-- an unexpected token is a fault, whether it would make a term with arguments or not
+unexpected_told : (lexed : Lexed) (n offset : ℕ) (function : Bool) → slice_get (starts_of lexed.tokens) n ≡ Some offset →
+    IsUnexpectedAt (marks_of lexed.tokens) n function → SyntaxFault lexed (unexpected function offset)
+unexpected_told lexed n offset true at found = (n, at, found)
+unexpected_told lexed n offset false at found = (n, at, found)
+
+-- a token at which the watcher stops is a fault, whatever it finds
+stopped_told : (lexed : Lexed) (n offset : ℕ) (why : Limit) → slice_get (starts_of lexed.tokens) n ≡ Some offset →
+    IsStoppedAt (marks_of lexed.tokens) n why → SyntaxFault lexed (limited why offset)
+stopped_told lexed n offset limit.TooDeep at found = (n, at, found)
+stopped_told lexed n offset limit.UnknownRole at found = (n, at, found)
+stopped_told lexed n offset limit.FreeVariable at found = (n, at, found)
 
 module _ (source : Text) (ts : List Token) (are : AreTokens source ts) where
   -- they are a text of items, or they have a refusal
@@ -57,14 +70,14 @@ module _ (source : Text) (ts : List Token) (are : AreTokens source ts) where
       let mark = mark_in ts t in
       inr (
         unexpected (makes_function last mark) t.start,
-        told_function (record { source = source; tokens = ts }) n t.start (makes_function last mark)
+        unexpected_told (record { source = source; tokens = ts }) n t.start (makes_function last mark)
             (start_at ts n t at) (after, last, mark, found, mark_at ts n t at, refl),
       )
   of_answer (Err (machine.Stopped n why)) after known found =
       let (t, at) = token_at ts n found.within in
       inr (
         limited why t.start,
-        told_limit (record { source = source; tokens = ts }) n t.start why after
+        stopped_told (record { source = source; tokens = ts }) n t.start why
             (start_at ts n t at) found,
       )
   of_answer (Err machine.EndsEarly) after known early = inr (EndOfText (length source), (refl, (after, early)))
