@@ -1,4 +1,5 @@
-//! A store of facts that finds facts by their symbol and by equality, and takes back the newest ones.
+//! A store of facts that finds facts by their symbol and by equality, and takes back the newest
+//! ones.
 #![tactic(auto)]
 
 mod chains;

@@ -33,8 +33,8 @@ fn chains_of_symbols(rt: HostRuntime) -> Result<(), Fail> {
     Ok(())
 }
 
-// One turn in a store and in a plain list: an undo point, a way back to the last one, or a fact. Whether both
-// agree.
+// One turn in a store and in a plain list: an undo point, a way back to the last one, or a fact.
+// Whether both agree.
 fn turns_alike(
     store: &mut Store,
     list: &mut Vec<(u32, u32)>,
