@@ -2,7 +2,8 @@
 use Rattle.std.proofs.Common.{◌≡◌, refl, sym, ◌∙◌, ap, subst, inl, inr, List, [], ◌∷◌, ◌++◌, append-nil}
 use Rattle.token_grammar.specs.Grammar.{Grammar, Spelled}
 use Rattle.text_core.specs.Lists.{IsAmong}
-use Rattle.token_grammar.specs.Values.{Place, element, RowValues, SpellsRow, Making, IsSpelling}
+use Rattle.token_grammar.specs.Making.{Place, element, RowValues, Making}
+use Rattle.token_grammar.specs.Values.{SpellsRow, IsSpelling}
 
 pub place_among : {A : Type 0} (list : List A) (a : A) → IsAmong a list → (place : Place list) × (element list place ≡ a)
 place_among [] a h = absurd h

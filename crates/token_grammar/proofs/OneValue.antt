@@ -9,7 +9,8 @@ use Rattle.text_core.specs.Lists.{IsAmong}
 use Rattle.token_grammar.specs.Taken.{Taken}
 use Rattle.token_grammar.specs.Taken.Taken.{stop, token, part}
 use Rattle.token_grammar.specs.Plan.{Plan, IsPredictive, is_first, one_less, is_empty, has_empty, all_nullable, rows_pass, asks, choice_passes, follow_passes}
-use Rattle.token_grammar.specs.Values.{Place, element, RowValues, SpellsRow, Making, IsSpelling}
+use Rattle.token_grammar.specs.Making.{Place, element, RowValues, Making}
+use Rattle.token_grammar.specs.Values.{SpellsRow, IsSpelling}
 use Rattle.token_grammar.proofs.Predicted.{Safe, implied, takes_alone, choices_pass, asks_taken, predicted_taken, safe_replaced, no_nullable, taken_nullable}
 use Rattle.token_grammar.proofs.Leaves.{leaves_start}
 use Rattle.token_grammar.proofs.Spelling.{joined, join_spelled, taken_spelled}

@@ -2,7 +2,10 @@ pub mod Grammar
 pub mod Taken
 pub mod Watch
 pub mod Plan
+pub mod Computed
 pub mod Step
 pub mod Answers
 pub mod Factored
+pub mod Making
+pub mod Productions
 pub mod Values

@@ -1,23 +1,7 @@
 -- What the parts of a grammar spell, told by values: each part has values of its own, and a value spells tokens.
 use Rattle.std.specs.Prelude.{◌≡◌, ◌⊎◌, List, [], ◌∷◌, ◌++◌, IsTrue}
 use Rattle.token_grammar.specs.Grammar.{Grammar, Spelled}
-use Rattle.std.proofs.Common.{inl, inr}
-
--- a place in a list
-abbrev pub Place : {A : Type 0} → List A → Type 0
-Place [] = ⊥
-Place (a ∷ rest) = Unit {0} ⊎ Place rest
-
--- the element at the place
-abbrev pub element : {A : Type 0} → (list : List A) → Place list → A
-element [] place = absurd place
-element (a ∷ rest) (inl here) = a
-element (a ∷ rest) (inr place) = element rest place
-
--- a value for each member of the row
-abbrev pub RowValues : {P : Type 0} → (P → Type 0) → List P → Type 0
-RowValues Value [] = Unit {0}
-RowValues Value (p ∷ row) = Value p × RowValues Value row
+use Rattle.token_grammar.specs.Making.{Place, element, RowValues, Making}
 
 -- the members' values spell the tokens, in order
 abbrev pub SpellsRow : {P T : Type 0} (Value : P → Type 0) → ((p : P) → Value p → List T → Type 0) → (row : List P) →
@@ -26,11 +10,6 @@ SpellsRow Value spells [] values ts = ts ≡ []
 SpellsRow Value spells (p ∷ []) values ts = spells p values.0 ts
 SpellsRow {T = T} Value spells (p ∷ q ∷ row) values ts =
     (us : List T) × (rest : List T) × spells p values.0 us × SpellsRow Value spells (q ∷ row) values.1 rest × (ts ≡ us ++ rest)
-
--- how the values of a grammar's parts are made: of a token that a part takes, and of the values of an alternative's members
-pub record Making {P T : Type 0} (g : Grammar P T) (Value : P → Type 0) : Type 0 where
-  pub of_token : (p : P) (t : T) → IsTrue (g.takes p t) → Value p
-  pub of_row : (p : P) (place : Place (g.alternatives p)) → RowValues Value (element (g.alternatives p) place) → Value p
 
 -- the value is made of the tokens in one of these ways
 abbrev pub IsMade : {P T : Type 0} (g : Grammar P T) (Value : P → Type 0) → ((p : P) → Value p → List T → Type 0) → Making g Value →

@@ -1,7 +1,8 @@
 ghost use Rattle.std.specs.Prelude.{◌≡◌, ◌↔◌, List, [], ◌∷◌};
 ghost use Rattle.token_grammar.specs.Grammar.{Grammar, Spelled};
 ghost use Rattle.token_grammar.specs.Plan.{Plan, IsPredictive};
-ghost use Rattle.token_grammar.specs.Values.{Making, IsSpelling};
+ghost use Rattle.token_grammar.specs.Making.{Making};
+ghost use Rattle.token_grammar.specs.Values.{IsSpelling};
 
 /// A grammar whose parts have values, and what a value spells.
 pub trait Valued {

@@ -2,7 +2,7 @@
 use Rattle.std.specs.Prelude.{◌≡◌, List, [], ◌∷◌, ◌++◌, Option, Some, None, IsTrue}
 use Rattle.std.proofs.Common.{inl, inr}
 use Rattle.std.proofs.lemmas.Bool.{false≢true}
-use Rattle.token_grammar.specs.Values.{Place, element, RowValues, Making}
+use Rattle.token_grammar.specs.Making.{Place, element, RowValues, Making}
 use Rattle.token_grammar_examples.specs.declared.expression.Mark as Mark
 use Rattle.token_grammar_examples.specs.declared.expression.Mark.TheVariants.{Open, Close, Plus, Times, Minus, Number}
 use Rattle.token_grammar_examples.specs.declared.expression.Symbol as Symbol

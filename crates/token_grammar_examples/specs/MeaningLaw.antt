@@ -3,7 +3,8 @@ use Rattle.std.specs.Prelude.{◌≡◌, true, List, [], ◌∷◌, ◌++◌, Op
 use Rattle.std.proofs.Common.{refl, sym, ◌∙◌, ap, subst, inl, inr, append-nil}
 use Rattle.std.proofs.lemmas.Bool.{false≢true}
 use Rattle.token_grammar.specs.Grammar.{Spelled}
-use Rattle.token_grammar.specs.Values.{Place, element, RowValues, SpellsRow, IsMade, IsSpelling}
+use Rattle.token_grammar.specs.Making.{Place, element, RowValues}
+use Rattle.token_grammar.specs.Values.{SpellsRow, IsMade, IsSpelling}
 use Rattle.token_grammar.proofs.Spelling.{join_spelled}
 use Rattle.token_grammar.proofs.OfValues.{spelled_part}
 use Rattle.token_grammar_examples.specs.declared.expression.Mark as Mark
