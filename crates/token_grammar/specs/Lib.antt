@@ -4,8 +4,10 @@ pub mod Watch
 pub mod Plan
 pub mod Computed
 pub mod Step
+pub mod Acting
 pub mod Answers
 pub mod Factored
 pub mod Making
 pub mod Productions
-pub mod Values
+pub mod SpelledAs
+pub mod Building

@@ -1,10 +1,13 @@
 ghost use Rattle.std.specs.Prelude.{◌≡◌, ◌↔◌, Bool, true, false, List, [], ◌∷◌, ◌++◌, Result};
 ghost use Rattle.token_grammar.specs.Grammar.{IsText, BeginsText};
 ghost use Rattle.token_grammar.specs.Taken.{Taken};
+ghost use Rattle.token_grammar.specs.SpelledAs.{SpelledAs};
 ghost use Rattle.token_grammar.specs.Answers.{IsAnswer, AreOne};
 ghost use Rattle.token_grammar.specs.declared.refusal.Refusal.{Refusal};
 
+use crate::builder::Builder;
 use crate::part::Part;
+use crate::source::Source;
 
 /// The answers exclude each other: two answers for the same tokens are one answer, place, last part and fault included,
 /// where neither is want of memory.
@@ -34,4 +37,13 @@ pub fn fronts_begin<P: Part>()
     ensures whole { (start : P) (ts : List P.Token) → IsText P.grammar start ts → BeginsText P.grammar start ts }
     ensures fronts { (start : P) (front back : List P.Token) →
         BeginsText P.grammar start (front ++ back) → BeginsText P.grammar start front }
+{}
+
+/// The tokens are a text exactly where some value of the start part spells them, and no two values spell the same tokens.
+pub fn texts_have_one_value<P: Part, S: Source<P::Token>, B: Builder<P, S>>()
+    ensures some { (tokens : S) (start : P) (ts : List P.Token) →
+        IsText P.grammar start ts ↔ ((value : B.Value start) × SpelledAs B.grammar B.Value (B.making tokens) start value ts) }
+    ensures one { (tokens : S) (start : P) (ts : List P.Token) (first second : B.Value start) →
+        SpelledAs B.grammar B.Value (B.making tokens) start first ts →
+        SpelledAs B.grammar B.Value (B.making tokens) start second ts → first ≡ second }
 {}

@@ -4,18 +4,20 @@
 //! at one token at a time, keeps one stack, and refuses at exactly the first token with which the tokens begin no text.
 #![tactic(auto)]
 
+mod builder;
 mod factored;
 mod laws;
 mod machine;
+mod nothing;
 mod part;
 mod refusal;
 mod source;
-mod valued;
 
+pub use builder::Builder;
 pub use factored::{Factored, factored_agrees};
-pub use laws::{answers_agree, fronts_begin, takers_agree, texts_are_taken};
-pub use machine::recognize;
+pub use laws::{answers_agree, fronts_begin, takers_agree, texts_are_taken, texts_have_one_value};
+pub use machine::{build, recognize};
+pub use nothing::Nothing;
 pub use part::{Part, Step, expand};
 pub use refusal::Refusal;
 pub use source::Source;
-pub use valued::{Valued, texts_have_values, values_agree};
