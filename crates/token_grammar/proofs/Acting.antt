@@ -1,5 +1,5 @@
 -- What the machine has the builder do, followed from the row on its stack.
-use Rattle.std.proofs.Common.{◌≡◌, refl, sym, ◌∙◌, ap, subst, ℕ, ◌+◌, arith, Bool, true, false, ◌&&◌, List, [], ◌∷◌, ◌++◌, length, reverse, append_assoc, append-nil, length-append}
+use Rattle.std.proofs.Common.{◌≡◌, refl, sym, ◌∙◌, ap, subst, ◌+◌, arith, true, ◌&&◌, List, [], ◌∷◌, ◌++◌, length, reverse, append_assoc, append-nil, length-append}
 use Rattle.std.specs.Prelude.{Option, Some, None, IsTrue}
 use Rattle.std.specs.List.{list_all}
 use Rattle.std.proofs.lemmas.List.{length-reverse, reverse-append, reverse-reverse}
@@ -9,7 +9,7 @@ use Rattle.token_grammar.specs.Grammar.{Grammar}
 use Rattle.token_grammar.specs.Plan.{Plan, predicted, is_nullable}
 use Rattle.token_grammar.specs.Step.{Steps, Pushes}
 use Rattle.token_grammar.specs.Acting.{Acted, Continues, ComesTo}
-use Rattle.token_grammar.specs.Acting.Acted.{ended, token, passed, replaced}
+use Rattle.token_grammar.specs.Acting.Acted.{token, passed, replaced}
 use Rattle.token_grammar.specs.declared.part.Step.{Step}
 use Rattle.token_grammar.specs.declared.part.Step.TheVariants.{Take, Expand}
 use Rattle.token_grammar.proofs.Predicted.{numbered_among, empty_among}
@@ -37,7 +37,7 @@ module _ {P T B : Type 0} (g : Grammar P T) (takes : P → T → B → B) (passe
       Continues g takes passes first before [] (reverse (below ++ reverse (q ∷ rest))) now
   continues_filled p q rest stack below now popped among goes ts after acted =
       let pushed : reverse (below ++ reverse (q ∷ rest)) ≡ q ∷ (rest ++ reverse below) =
-          reverse-append below (reverse (q ∷ rest)) ∙ ap (λ row. row ++ reverse below) (reverse-reverse (q ∷ rest)) in
+      reverse-append below (reverse (q ∷ rest)) ∙ ap (λ row. row ++ reverse below) (reverse-reverse (q ∷ rest)) in
       goes ts after (subst (λ row. Acted g takes passes row now ts after) (sym (ap reverse popped ∙ on_top below p))
       (replaced q rest among (subst (λ row. Acted g takes passes row now ts after) pushed acted)))
 
@@ -102,6 +102,6 @@ pub nullable_top : {P T : Type 0} (g h : Grammar P T) (p : P) (stack below : Lis
     IsTrue (list_all (is_nullable g) stack) → IsTrue (list_all (is_nullable g) below) × IsAmong [] (h.alternatives p)
 nullable_top g h p stack below same popped all =
     let split : (is_nullable g p && list_all (is_nullable g) below) ≡ true =
-        sym (list_all-append (is_nullable g) below p) ∙ subst (λ x. list_all (is_nullable g) x ≡ true) popped all in
+    sym (list_all-append (is_nullable g) below p) ∙ subst (λ x. list_all (is_nullable g) x ≡ true) popped all in
     let (empty, others) = and_parts (is_nullable g p) (list_all (is_nullable g) below) split in
     (others, subst (λ x. IsAmong [] (x.alternatives p)) same (empty_among (g.alternatives p) empty))

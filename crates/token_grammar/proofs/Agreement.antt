@@ -40,7 +40,7 @@ front_taken (part alternative a rest) (u ∷ us) vs e =
     (qs, rs, split, same, part alternative a front)
 
 -- what is seen is seen from the front on
-front_seen : {P T S F : Type 0} (watcher : Watcher P T S F) (qs rs : List P) (us vs : List T) (before after : S) → length qs ≡ length us →
+pub front_seen : {P T S F : Type 0} (watcher : Watcher P T S F) (qs rs : List P) (us vs : List T) (before after : S) → length qs ≡ length us →
     Sees watcher before (qs ++ rs) (us ++ vs) after → (between : S) × Sees watcher before qs us between × Sees watcher between rs vs after
 front_seen watcher [] rs [] vs before after same seen = (before, refl, seen)
 front_seen watcher [] rs (u ∷ us) vs before after same seen = absurd (omega arith)
@@ -77,7 +77,7 @@ module _ {P T : Type 0} (g : Grammar P T) (plan : Plan P T) (law : IsPredictive 
   one_taking_of_text start whole other ts takers others first second =
       one_taking others (leaves_start g plan law start).safe first second
 
-taken_length : {P T : Type 0} {g : Grammar P T} {whole : Bool} {row : List P} {ts : List T} {takers : List P} →
+pub taken_length : {P T : Type 0} {g : Grammar P T} {whole : Bool} {row : List P} {ts : List T} {takers : List P} →
     Taken g whole row ts takers → length takers ≡ length ts
 taken_length (stop h) = refl
 taken_length (token h rest) = ap suc (taken_length rest)

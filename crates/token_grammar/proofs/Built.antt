@@ -1,14 +1,13 @@
 -- What the builder does over the tokens of a row is the effect of the values that they spell.
-use Rattle.std.proofs.Common.{◌≡◌, refl, sym, ◌∙◌, ap, subst, inl, inr, List, [], ◌∷◌, ◌++◌, append_assoc}
+use Rattle.std.proofs.Common.{◌≡◌, refl, sym, ◌∙◌, ap, subst, List, [], ◌∷◌, ◌++◌, append_assoc}
 use Rattle.std.specs.Prelude.{IsTrue}
 use Rattle.text_core.specs.Lists.{IsAmong}
 use Rattle.token_grammar.specs.Grammar.{Grammar}
-use Rattle.token_grammar.specs.Making.{Choice, element, RowValues, Making}
+use Rattle.token_grammar.specs.Making.{RowValues, Making}
 use Rattle.token_grammar.specs.SpelledAs.{SpelledAs, SpelledRow}
 use Rattle.token_grammar.specs.SpelledAs.SpelledAs.{of_token, of_row}
 use Rattle.token_grammar.specs.SpelledAs.SpelledRow.{none, member}
-use Rattle.token_grammar.specs.Building.{IsBuilding, RowLaws, after_members, after_row}
-use Rattle.token_grammar.specs.Productions.{Makers, made_at, making_by}
+use Rattle.token_grammar.specs.Building.{IsBuilding, after_members, after_row}
 use Rattle.token_grammar.specs.Acting.{Acted}
 use Rattle.token_grammar.proofs.OfValues.{choice_among, spelled_alone}
 use Rattle.token_grammar.specs.Acting.Acted.{ended, token, passed, replaced}
@@ -96,22 +95,3 @@ module _ {P T B : Type 0} (g : Grammar P T) (Value : P → Type 0) (making : Mak
   built p ts before after acted =
       let (values, spelled, e) = built_row acted in
       (values.0, spelled_alone g Value making p values ts spelled, e)
-
--- a builder's law from the law of its tokens and one for each row
-pub building_by : {P T B : Type 0} (g : Grammar P T) (Value : P → Type 0) (made_of : (p : P) (t : T) → IsTrue (g.takes p t) → Value p)
-    (makers : (p : P) → Makers Value (Value p) (g.alternatives p)) (takes : P → T → B → B) (passes : P → B → B)
-    (effect : (p : P) → Value p → B → B) →
-    ((p : P) (t : T) (taken : IsTrue (g.takes p t)) (b : B) → takes p t b ≡ effect p (made_of p t taken) b) →
-    ((p : P) → RowLaws Value effect passes p (g.alternatives p) (makers p)) →
-    IsBuilding g Value (making_by g Value made_of makers) takes passes effect
-building_by {P = P} {B = B} g Value made_of makers takes passes effect tokens rows = record {
-  token = tokens;
-  row = λ p choice values b. at_row p (g.alternatives p) (makers p) (rows p) choice values b;
-}
-  where
-    at_row : (p : P) (all : List (List P)) (each : Makers Value (Value p) all) → RowLaws Value effect passes p all each →
-        (choice : Choice all) (values : RowValues Value (element all choice)) (b : B) →
-        after_row Value effect passes p (element all choice) values b ≡ effect p (made_at Value all each choice values) b
-    at_row p [] each laws choice values b = absurd choice
-    at_row p (row ∷ all) each laws (inl here) values b = laws.0 values b
-    at_row p (row ∷ all) each laws (inr choice) values b = at_row p all each.1 laws.1 choice values b

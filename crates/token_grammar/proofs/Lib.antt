@@ -5,9 +5,10 @@ pub mod Reading
 pub mod Moving
 pub mod Acting
 pub mod Built
-pub mod Decided
 pub mod Agreement
+pub mod Answered
 pub mod Translated
 pub mod OfValues
 pub mod OneValue
-
+pub mod Telling
+pub mod Laws

@@ -2,7 +2,7 @@
 -- Source: the LL(1) condition, with its first and follow sets.
 use Rattle.std.specs.Prelude.{ℕ, zero, suc, ◌+◌, Bool, true, false, not, List, [], ◌∷◌, Option, Some, None, max}
 use Rattle.token_grammar.specs.Grammar.{Grammar}
-use Rattle.token_grammar.specs.Plan.{Plan, one_less, is_empty, is_nullable, all_nullable}
+use Rattle.token_grammar.specs.Plan.{Plan, is_empty, is_nullable, all_nullable}
 
 -- whether the row passes, or a later one
 abbrev pub some_row : {P : Type 0} → (List P → Bool) → List (List P) → Bool

@@ -6,7 +6,9 @@ pub mod Computed
 pub mod Step
 pub mod Acting
 pub mod Answers
+pub mod Answered
 pub mod Factored
+pub mod Stacks
 pub mod Making
 pub mod Productions
 pub mod SpelledAs

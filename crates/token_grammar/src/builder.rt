@@ -32,13 +32,7 @@ pub trait Builder<P: Part, S: Source<P::Token>> {
     ghost Watched: { P → P.Token → Type 0 };
 
     /// Acts at the token of this number, which the part took and in which the watcher found no fault.
-    fn take(
-        &mut self,
-        tokens: &S,
-        number: usize,
-        part: P,
-        token: P::Token,
-    ) -> Result<(), Memory>
+    fn take(&mut self, tokens: &S, number: usize, part: P, token: P::Token) -> Result<(), Memory>
         requires at { slice_get (S.marks tokens.now) number ≡ Some token }
         requires taken { IsTrue (grammar.takes part token) }
         requires watched { Watched part token }

@@ -27,7 +27,7 @@ use Rattle.tptp_grammar.specs.Told.{IsAcceptedText}
 use Rattle.tptp_grammar.specs.Reading.{items_from, IsReadable}
 use Rattle.tptp_grammar.proofs.Faults.{accepted_no_fault}
 use Rattle.tptp_grammar.proofs.ItemsRead.{items_read}
-use Rattle.tptp_grammar.proofs.InProblem.{items_in_problem}
+use Rattle.tptp_grammar.proofs.Allowed.{items_allowed}
 use Rattle.tptp_grammar.proofs.Valued.{items_spelled}
 use Rattle.tptp_grammar.proofs.Watched.{IsWatched, watched}
 
@@ -65,7 +65,7 @@ readable bytes ts are accepted =
     record {
       items = items;
       is_read = items_read items ts text.spelled;
-      may_stand = items_in_problem ts items text.spelled text.closed;
+      allowed = items_allowed ts items text.spelled text.closed;
     }
 
 -- what the reader reads is what the tokens are a text of

@@ -5,8 +5,8 @@ use Rattle.token_grammar.specs.Answers.{IsAccepted, IsRefused, AreOne}
 use Rattle.token_grammar.specs.declared.refusal.Refusal.{Refusal}
 use Rattle.token_grammar.specs.declared.refusal.Refusal.TheVariants as machine
 use Rattle.token_grammar.proofs.Agreement as agreement
-use Rattle.token_grammar.proofs.Decided.{computed_decided}
-use Rattle.tptp_lexer.specs.Tokens.{Lexed, starts_of}
+use Rattle.token_grammar.proofs.Laws.{computed_decided}
+use Rattle.tptp_lexer.specs.Columns.{Lexed, starts_of}
 use Rattle.tptp_grammar.specs.declared.limit.Limit.{Limit}
 use Rattle.tptp_grammar.specs.declared.limit.Limit.TheVariants as limit
 use Rattle.tptp_grammar.specs.declared.refusal.SyntaxRefusal.{SyntaxRefusal}
@@ -18,21 +18,21 @@ use Rattle.tptp_grammar.specs.Plan.{items_plan}
 use Rattle.tptp_grammar.specs.PartsLaw.{items_law}
 use Rattle.tptp_grammar.specs.Limits.{Bindings, items_watcher, look}
 use Rattle.tptp_grammar.specs.Marks.{marks_of}
-use Rattle.tptp_grammar.specs.Texts.{SyntaxFault, IsUnexpectedAt, makes_function}
+use Rattle.tptp_grammar.specs.Texts.{SyntaxFault, IsUnexpectedAt, IsStoppedAt, makes_function}
 use Rattle.tptp_grammar.specs.Told.{Tells, IsMachineRefusal, unexpected, limited}
 
--- a token with which no text begins has this refusal
-pub told_function : (lexed : Lexed) (n offset : ℕ) (function : Bool) → slice_get (starts_of lexed.tokens) n ≡ Some offset →
+-- an unexpected token is a fault, whether it would make a term with arguments or not
+pub unexpected_told : (lexed : Lexed) (n offset : ℕ) (function : Bool) → slice_get (starts_of lexed.tokens) n ≡ Some offset →
     IsUnexpectedAt (marks_of lexed.tokens) n function → SyntaxFault lexed (unexpected function offset)
-told_function lexed n offset true at found = (n, at, found)
-told_function lexed n offset false at found = (n, at, found)
+unexpected_told lexed n offset true at found = (n, at, found)
+unexpected_told lexed n offset false at found = (n, at, found)
 
--- a token that the watcher refuses has this refusal
-pub told_limit : (lexed : Lexed) (n offset : ℕ) (why : Limit) (after : Bindings) → slice_get (starts_of lexed.tokens) n ≡ Some offset →
-    IsRefused fof_items items_watcher Items [] (marks_of lexed.tokens) after (machine.Stopped n why) → SyntaxFault lexed (limited why offset)
-told_limit lexed n offset limit.TooDeep after at stopped = (n, at, stopped)
-told_limit lexed n offset limit.UnknownRole after at stopped = (n, at, stopped)
-told_limit lexed n offset limit.FreeVariable after at stopped = (n, at, stopped)
+-- a token at which the watcher stops is a fault, whatever it finds
+pub stopped_told : (lexed : Lexed) (n offset : ℕ) (why : Limit) → slice_get (starts_of lexed.tokens) n ≡ Some offset →
+    IsStoppedAt (marks_of lexed.tokens) n why → SyntaxFault lexed (limited why offset)
+stopped_told lexed n offset limit.TooDeep at found = (n, at, found)
+stopped_told lexed n offset limit.UnknownRole at found = (n, at, found)
+stopped_told lexed n offset limit.FreeVariable at found = (n, at, found)
 
 -- what the machine's refusal is told as is want of memory, or the refusal of the tokens
 pub told_fault : (lexed : Lexed) (answer : Refusal ItemPart Limit) (refusal : SyntaxRefusal) → IsMachineRefusal lexed answer →
@@ -40,9 +40,9 @@ pub told_fault : (lexed : Lexed) (answer : Refusal ItemPart Limit) (refusal : Sy
 told_fault lexed machine.Memory refusal refused e = inl e
 told_fault lexed (machine.Unexpected n last) refusal (after, found) (t, offset, here, at, e) =
     inr (subst (SyntaxFault lexed) (sym e)
-    (told_function lexed n offset (makes_function last t) at (after, last, t, found, here, refl)))
+    (unexpected_told lexed n offset (makes_function last t) at (after, last, t, found, here, refl)))
 told_fault lexed (machine.Stopped n why) refusal (after, stopped) (offset, at, e) =
-    inr (subst (SyntaxFault lexed) (sym e) (told_limit lexed n offset why after at stopped))
+    inr (subst (SyntaxFault lexed) (sym e) (stopped_told lexed n offset why at stopped))
 told_fault lexed machine.EndsEarly refusal (after, early) e = inr (subst (SyntaxFault lexed) (sym e) (refl, (after, early)))
 
 -- an answer of the machine that is told as this refusal

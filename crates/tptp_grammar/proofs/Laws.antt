@@ -3,7 +3,8 @@ use Rattle.std.specs.Prelude.{◌≡◌, ◌⊎◌, List, Ok, Err}
 use Rattle.text_core.proofs.Laws.{exact_value, exact_refusal}
 use Rattle.text_core.specs.Exact.{Exact}
 use Rattle.logic_core.specs.declared.problem.Item.{Item}
-use Rattle.tptp_lexer.specs.Tokens.{Token, Lexed}
+use Rattle.tptp_lexer.specs.Tokens.{Token}
+use Rattle.tptp_lexer.specs.Columns.{Lexed}
 use Rattle.tptp_grammar.specs.declared.refusal.SyntaxRefusal.{SyntaxRefusal}
 use Rattle.tptp_grammar.specs.declared.refusal.SyntaxRefusal.TheVariants.{Memory}
 use Rattle.tptp_grammar.specs.Spells.{AreItemsOf}

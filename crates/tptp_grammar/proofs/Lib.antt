@@ -7,7 +7,7 @@ pub mod UnitsRead
 pub mod FormulasRead
 pub mod DotsSkipped
 pub mod ItemsRead
-pub mod InProblem
+pub mod Allowed
 pub mod Folding
 pub mod Inversion
 pub mod Keeping
@@ -24,6 +24,7 @@ pub mod Annotated
 pub mod Watched
 pub mod Numbering
 pub mod Accepted
+pub mod ItemsOrRefusal
 pub mod ItemLoop
 pub mod Counts
 pub mod Closing

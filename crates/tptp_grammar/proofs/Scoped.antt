@@ -4,8 +4,8 @@ use Rattle.std.specs.List.{AllByRecursion}
 use Rattle.std.proofs.Common.{refl, sym, ◌∙◌, inl, inr, subst, append-nil}
 use Rattle.text_core.specs.Lists.{IsAmong}
 use Rattle.text_core.specs.Names.{Text}
-use Rattle.logic_core.specs.Openings.{row_of, Not_opens, And_opens, Or_opens, Binary_opens, ForAll_opens, Exists_opens}
-use Rattle.logic_core.specs.Problems.{TermIsBound, AreVariables, IsBoundIn, EachIsBoundIn, TwoOrMore}
+use Rattle.logic_core.proofs.Laws.{row_of, Not_opens, And_opens, Or_opens, Binary_opens, ForAll_opens, Exists_opens}
+use Rattle.logic_core.specs.Allowed.{TermIsBound, AreVariables, IsBoundIn, EachIsBoundIn, TwoOrMore}
 use Rattle.logic_core.specs.declared.formula.Term.{Term}
 use Rattle.logic_core.specs.declared.formula.Term.TheVariants.{Variable, Constant}
 use Rattle.logic_core.specs.declared.formula.Formula.{Formula, Equal}

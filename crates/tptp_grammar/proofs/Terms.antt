@@ -5,7 +5,7 @@ use Rattle.std.proofs.Common.{refl, sym, ◌∙◌, ap, inl, inr, subst, append_
 use Rattle.text_core.specs.Lists.{IsAmong}
 use Rattle.text_core.proofs.Laws.{among_back}
 use Rattle.text_core.specs.Names.{Text, is_upper_word}
-use Rattle.logic_core.specs.Problems.{TermIsBound, AreVariables}
+use Rattle.logic_core.specs.Allowed.{TermIsBound, AreVariables}
 use Rattle.logic_core.specs.declared.formula.Term.{Term}
 use Rattle.logic_core.specs.declared.formula.Term.TheVariants.{Variable, Constant}
 use Rattle.tptp_lexer.specs.declared.kind.Kind.{Kind}

@@ -4,7 +4,7 @@ use Rattle.std.specs.List.{AllByRecursion}
 use Rattle.std.proofs.Common.{refl, sym, ◌∙◌, ap, inl, inr, append_assoc}
 use Rattle.text_core.proofs.Laws.{each_member}
 use Rattle.text_core.specs.Names.{Text}
-use Rattle.logic_core.specs.Problems.{IsBoundIn}
+use Rattle.logic_core.specs.Allowed.{IsBoundIn}
 use Rattle.logic_core.specs.declared.problem.Fof.{Fof}
 use Rattle.logic_core.specs.declared.problem.Item.{Item}
 use Rattle.logic_core.specs.declared.problem.Item.TheVariants.{Fof as ItemFof, Include}

@@ -5,7 +5,7 @@ use Rattle.std.specs.Option.{option_and_then}
 use Rattle.std.specs.Str.{bytes_eq}
 use Rattle.std.specs.List.{AllByRecursion}
 use Rattle.text_core.specs.Names.{Text}
-use Rattle.logic_core.specs.Problems.{ItemMayStand}
+use Rattle.logic_core.specs.Allowed.{ItemIsAllowed}
 use Rattle.logic_core.specs.declared.formula.Term.{Term}
 use Rattle.logic_core.specs.declared.formula.Term.TheVariants.{Variable, Constant}
 use Rattle.logic_core.specs.declared.formula.Op.{Op}
@@ -278,4 +278,4 @@ items_from depth (suc most) (t ∷ ts) = option_and_then (λ (read : Item × Lis
 pub record IsReadable (ts : List Token) : Type 0 where
   pub items : List Item
   pub is_read : items_from MOST_LEVELS (length ts) ts ≡ Some (items, [])
-  pub may_stand : AllByRecursion ItemMayStand items
+  pub allowed : AllByRecursion ItemIsAllowed items

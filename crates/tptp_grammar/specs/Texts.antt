@@ -2,7 +2,8 @@
 use Rattle.std.specs.Prelude.{ℕ, ◌≡◌, Bool, true, false, ◌||◌, List, [], length, slice_get, Option, Some}
 use Rattle.token_grammar.specs.Answers.{IsUnexpected, IsStopped, IsEarlyEnd}
 use Rattle.tptp_lexer.specs.declared.kind.Kind.TheVariants as kind
-use Rattle.tptp_lexer.specs.Tokens.{Token, Lexed, starts_of}
+use Rattle.tptp_lexer.specs.Tokens.{Token}
+use Rattle.tptp_lexer.specs.Columns.{Lexed, starts_of}
 use Rattle.tptp_grammar.specs.declared.limit.Limit.{Limit}
 use Rattle.tptp_grammar.specs.declared.limit.Limit.TheVariants as limit
 use Rattle.tptp_grammar.specs.declared.mark.Mark.{Mark}

@@ -123,7 +123,7 @@ impl Part for ItemPart {
 
     type Fault = Limit;
 
-    ghost use Rattle.token_grammar.proofs.Decided.{computed_decided};
+    ghost use Rattle.token_grammar.proofs.Laws.{computed_decided};
     ghost use Rattle.tptp_grammar.specs.Parts.{fof_items};
     ghost use Rattle.tptp_grammar.specs.Plan.{items_plan};
     ghost use Rattle.tptp_grammar.specs.PartsLaw.{items_law};

@@ -24,7 +24,9 @@ mod tests;
 
 pub use item_part::ItemPart;
 pub use items::read_items;
-pub use law::{items_are_one, never_items_and_refusal, printed_agrees, refusals_are_one};
+pub use law::{
+    items_are_one, items_or_refusal, never_items_and_refusal, printed_agrees, refusals_are_one,
+};
 pub use limit::Limit;
 pub use mark::Mark;
 pub use printed_form::PrintedForm;

@@ -22,7 +22,7 @@ loop-part-smaller-in-Continue-branch-3 g c =
 pub loop-part-preserved-in-Continue-branch-3 : goal.loop-part-preserved-in-Continue-branch-3
 loop-part-preserved-in-Continue-branch-3 g c = (
   expanded_further g.P.Part.grammar g.P.Part.plan c.in-Some.part c.args.token c.loop-part.stack.items c.pop.new.self.items
-  c.step.new.stack.items c.in_ok-step.field-0 c.in-Some.ensures.items c.in_ok-step.ensures c.in-Expand.is _ c.loop-part.invariant.0,
+      c.step.new.stack.items c.in_ok-step.field-0 c.in-Some.ensures.items c.in_ok-step.ensures c.in-Expand.is _ c.loop-part.invariant.0,
   λ tokens.
       let h = c.if-len-below.true in
       let e = c.len.ensures in
@@ -37,7 +37,7 @@ loop-part-preserved-in-Continue-branch-3 g c = (
 pub loop-part-preserved : goal.loop-part-preserved
 loop-part-preserved g c = (
   expanded_further g.P.Part.grammar g.P.Part.plan c.in-Some.part c.args.token c.loop-part.stack.items c.pop.new.self.items
-  c.step.new.stack.items c.in_ok-step.field-0 c.in-Some.ensures.items c.in_ok-step.ensures c.in-Expand.is _ c.loop-part.invariant.0,
+      c.step.new.stack.items c.in_ok-step.field-0 c.in-Some.ensures.items c.in_ok-step.ensures c.in-Expand.is _ c.loop-part.invariant.0,
   λ tokens. continues_pushed g.P.Part.grammar g.B.Builder.grammar g.P.Part.plan (g.B.Builder.takes tokens) g.B.Builder.passes
       (reverse c.args.stack.now.items) (g.B.Builder.built c.args.builder.now) (g.B.Builder.built c.loop-part.builder) c.in-Some.part
       c.args.token c.loop-part.stack.items c.pop.new.self.items c.step.new.stack.items c.in_ok-step.field-0 g.met.B.Builder.reads
