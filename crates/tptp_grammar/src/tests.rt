@@ -4,7 +4,7 @@ use std::alloc::Global;
 use std::test::Fail;
 use tptp_lexer::tokens;
 
-// Texts that are no text of items, each with the number and the place of its refusal.
+// Texts that are no text of items, each with the number and the offset of its refusal.
 const REFUSALS: &[(&[u8], u32, u32)] = &[
     // one chain has one kind of mark
     (b"fof(a,axiom,p & q | r).", 5, 18),
@@ -32,13 +32,13 @@ const REFUSALS: &[(&[u8], u32, u32)] = &[
     (b"fof(a,axiom,f(a) != b).", 6, 17),
     // the same below a negation
     (b"fof(a,axiom,~ p(a) = b).", 6, 19),
-    // behind a bracket no term can stand
+    // behind a bracket there can be no term
     (b"fof(a,axiom,(p(a)) = b).", 5, 19),
     // the same
     (b"fof(a,axiom,(p) = b).", 5, 16),
     // an equation has two sides
     (b"fof(a,axiom,a = b = c).", 5, 18),
-    // arguments stand once
+    // arguments are given once
     (b"fof(a,axiom,p(a)(b)).", 5, 16),
     // brackets hold an argument
     (b"fof(a,axiom,p()).", 5, 14),
@@ -88,11 +88,11 @@ const REFUSALS: &[(&[u8], u32, u32)] = &[
     (b"fof", 7, 3),
     // none of the nine roles
     (b"fof(a,plain,p).", 9, 6),
-    // it stands before the variable
+    // it comes before the variable
     (b"fof(a,plain,p(X) & ).", 9, 6),
     // nothing binds the variable
     (b"fof(a,axiom,p(X)).", 10, 14),
-    // it stands before the bracket
+    // it comes before the bracket
     (b"fof(a,axiom,p(X) & ).", 10, 14),
     // a variable begins a unit
     (b"fof(a,axiom,X).", 10, 12),
@@ -122,20 +122,20 @@ const TEXTS: &[(&[u8], usize)] = &[
     ),
 ];
 
-/// The number and the place of a refusal; 0 for want of memory.
+/// The number and the offset of a refusal; 0 for want of memory.
 fn numbered(refusal: &SyntaxRefusal) -> (u32, u32) {
     match refusal {
-        SyntaxRefusal::Unexpected(place) => (5, *place),
-        SyntaxRefusal::FunctionTerm(place) => (6, *place),
-        SyntaxRefusal::EndOfText(place) => (7, *place),
-        SyntaxRefusal::TooDeep(place) => (8, *place),
-        SyntaxRefusal::Role(place) => (9, *place),
-        SyntaxRefusal::FreeVariable(place) => (10, *place),
+        SyntaxRefusal::Unexpected(offset) => (5, *offset),
+        SyntaxRefusal::FunctionTerm(offset) => (6, *offset),
+        SyntaxRefusal::EndOfText(offset) => (7, *offset),
+        SyntaxRefusal::TooDeep(offset) => (8, *offset),
+        SyntaxRefusal::Role(offset) => (9, *offset),
+        SyntaxRefusal::FreeVariable(offset) => (10, *offset),
         SyntaxRefusal::Memory => (0, 0),
     }
 }
 
-/// The items of a text of at most 1,000,000 bytes, or the number and the place of its refusal.
+/// The items of a text of at most 1,000,000 bytes, or the number and the offset of its refusal.
 fn read(alloc: Global, text: &[u8]) -> Result<Result<Items, (u32, u32)>, Fail> {
     if text.len() > 1_000_000 {
         return Ok(Err((0, 0)));
@@ -148,11 +148,11 @@ fn read(alloc: Global, text: &[u8]) -> Result<Result<Items, (u32, u32)>, Fail> {
 }
 
 #[test]
-fn each_text_is_refused_at_its_place(rt: HostRuntime) -> Result<(), Fail> {
-    for (text, number, place) in REFUSALS {
+fn each_text_is_refused_at_its_offset(rt: HostRuntime) -> Result<(), Fail> {
+    for (text, number, offset) in REFUSALS {
         match read(rt.alloc(), text)? {
             Ok(_) => assert!(rt; false),
-            Err(told) => assert_eq!(rt; told, (*number, *place)),
+            Err(told) => assert_eq!(rt; told, (*number, *offset)),
         }
     }
     Ok(())

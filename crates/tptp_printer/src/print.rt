@@ -2,7 +2,7 @@ ghost use Rattle.std.specs.Prelude.{◌≡◌, [], ◌∷◌, List, map, IfOk};
 ghost use Rattle.logic_core.specs.Problems.{ItemMayStand};
 ghost use Rattle.logic_core.specs.declared.problem.Item.TheVariants.{Fof as ItemFof};
 ghost use Rattle.tptp_lexer.specs.Tokens.{Token, AreTokens};
-ghost use Rattle.tptp_grammar.specs.Texts.{AreItemsOf};
+ghost use Rattle.tptp_grammar.specs.Spells.{AreItemsOf};
 ghost use Rattle.tptp_printer.specs.Canonical.{item_text, problem_text};
 
 use crate::item::{put_fof, put_item};
