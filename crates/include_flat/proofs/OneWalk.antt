@@ -7,7 +7,7 @@ use Rattle.text_core.specs.Names.{Text}
 use Rattle.logic_core.specs.declared.problem.Item.{Item}
 use Rattle.io_core.specs.Causes.{Held}
 use Rattle.tptp_lexer.specs.Tokens.{Token}
-use Rattle.tptp_lexer.proofs.Exact as exact
+use Rattle.tptp_lexer.proofs.Laws as exact
 use Rattle.tptp_grammar.specs.Texts.{AreItemsOf, SyntaxFault}
 use Rattle.tptp_grammar.proofs.Faults as faults
 use Rattle.tptp_grammar.proofs.ItemsRead.{one_text}

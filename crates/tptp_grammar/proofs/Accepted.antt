@@ -8,7 +8,8 @@ use Rattle.token_grammar.specs.Answers.{IsClean}
 use Rattle.token_grammar.specs.Watch.{Sees}
 use Rattle.token_grammar.proofs.Agreement.{one_taking_of_text}
 use Rattle.token_grammar.proofs.Spelling.{spelled_taken}
-use Rattle.tptp_lexer.specs.Tokens.{Token, Lexed, AreTokens}
+use Rattle.tptp_lexer.specs.Tokens.{Token, AreTokens}
+use Rattle.tptp_lexer.specs.Columns.{Lexed}
 use Rattle.text_core.specs.declared.limits.TheConstants.{MOST_LEVELS}
 use Rattle.tptp_grammar.specs.declared.refusal.SyntaxRefusal.{SyntaxRefusal}
 use Rattle.tptp_grammar.specs.declared.refusal.SyntaxRefusal.TheVariants as refusals

@@ -6,7 +6,7 @@ use Rattle.token_grammar.specs.declared.refusal.Refusal.{Refusal}
 use Rattle.token_grammar.specs.declared.refusal.Refusal.TheVariants as machine
 use Rattle.token_grammar.proofs.Agreement as agreement
 use Rattle.token_grammar.proofs.Decided.{computed_decided}
-use Rattle.tptp_lexer.specs.Tokens.{Lexed, starts_of}
+use Rattle.tptp_lexer.specs.Columns.{Lexed, starts_of}
 use Rattle.tptp_grammar.specs.declared.limit.Limit.{Limit}
 use Rattle.tptp_grammar.specs.declared.limit.Limit.TheVariants as limit
 use Rattle.tptp_grammar.specs.declared.refusal.SyntaxRefusal.{SyntaxRefusal}

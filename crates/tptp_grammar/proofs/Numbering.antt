@@ -14,8 +14,9 @@ use Rattle.token_grammar.proofs.Reading.{take-next}
 use Rattle.tptp_lexer.specs.declared.kind.Kind.{Kind}
 use Rattle.tptp_lexer.specs.declared.kind.Kind.TheVariants.{Upper}
 use Rattle.tptp_lexer.specs.Kinds.{kind_of}
-use Rattle.tptp_lexer.specs.Tokens.{Token, kinds_of, texts_of, Reads, stop, blank, comment, token, IsEnd, AreTokens}
-use Rattle.tptp_lexer.proofs.Heads.{empty_kind}
+use Rattle.tptp_lexer.specs.Tokens.{Token, Reads, stop, blank, comment, token, IsEnd, AreTokens}
+use Rattle.tptp_lexer.specs.Columns.{kinds_of, texts_of}
+use Rattle.tptp_lexer.proofs.Laws.{empty_kind}
 use Rattle.tptp_grammar.specs.declared.mark.Mark.TheVariants.{Upper as UpperMark}
 use Rattle.tptp_grammar.specs.Marks.{marked, mark_in, marks_of, number_of}
 use Rattle.tptp_grammar.specs.Numbering.{AreNumbers}

@@ -6,7 +6,8 @@ use Rattle.logic_core.specs.declared.problem.Item.{Item}
 use Rattle.logic_core.specs.declared.problem.Item.TheVariants.{Fof as ItemFof, Include}
 use Rattle.token_grammar.specs.Answers.{IsUnexpected, IsStopped, IsEarlyEnd}
 use Rattle.tptp_lexer.specs.declared.kind.Kind.TheVariants as kind
-use Rattle.tptp_lexer.specs.Tokens.{Token, Lexed, starts_of}
+use Rattle.tptp_lexer.specs.Tokens.{Token}
+use Rattle.tptp_lexer.specs.Columns.{Lexed, starts_of}
 use Rattle.tptp_grammar.specs.declared.limit.Limit.{Limit}
 use Rattle.tptp_grammar.specs.declared.limit.Limit.TheVariants as limit
 use Rattle.tptp_grammar.specs.declared.mark.Mark.{Mark}
