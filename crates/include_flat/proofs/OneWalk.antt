@@ -7,7 +7,7 @@ use Rattle.text_core.specs.Names.{Text}
 use Rattle.logic_core.specs.declared.problem.Item.{Item}
 use Rattle.io_core.specs.Causes.{Held}
 use Rattle.tptp_lexer.specs.Tokens.{Token}
-use Rattle.tptp_lexer.proofs.Exact as exact
+use Rattle.tptp_lexer.proofs.Laws as exact
 use Rattle.tptp_grammar.specs.Spells.{AreItemsOf}
 use Rattle.tptp_grammar.specs.Texts.{SyntaxFault}
 use Rattle.tptp_grammar.proofs.Laws.{items_same, fault_same, items_no_fault}
