@@ -1,8 +1,8 @@
 use crate::{FetchFault, Files, MemoryFiles, MemorySink, RealFiles, Sink, SinkFault, StreamSink};
-use text_core::{Bytes, Memory};
 use std::fs;
 use std::fs::File;
 use std::test::Fail;
+use text_core::{Bytes, Memory};
 
 const PROBLEM: &[u8] = b"fof(a1,axiom,p(c)).";
 
