@@ -5,7 +5,7 @@ use Rattle.std.specs.Str.{bytes_eq}
 use Rattle.text_core.specs.Names.{Text}
 use Rattle.logic_core.specs.declared.problem.Fof.{Fof}
 use Rattle.logic_core.specs.declared.problem.Item.{Item}
-use Rattle.io_core.specs.Causes.{Held}
+use Rattle.io_core.specs.Held.{Held}
 use Rattle.include_flat.specs.declared.refusal.FlatWhy.{FlatWhy}
 use Rattle.include_flat.specs.declared.walked.Walked.{Walked}
 use Rattle.include_flat.specs.Walks.{Entry, Selections, WalksFile, WalksBytes, WalksItems, kept_entries, with_selection}
@@ -13,9 +13,9 @@ use Rattle.include_flat.specs.Walks.Entry.{kept}
 use Rattle.include_flat.specs.Walks.WalksFile.{too_deep, not_held, too_long, read}
 use Rattle.include_flat.specs.Walks.WalksBytes.{unread, no_tokens, no_items, with_items}
 use Rattle.include_flat.specs.Walks.WalksItems.{cut, end, formula, inclusion, within}
-use Rattle.include_flat.specs.Outside.{Known}
+use Rattle.io_core.specs.Known.{Known}
 use Rattle.include_flat.specs.Progress.{PassesOver, RefusesOver, over_file, AreAlike}
-use Rattle.include_flat.proofs.Known.{where_told}
+use Rattle.include_flat.proofs.Told.{where_told}
 use Rattle.include_flat.proofs.Passing.{refuses_on, passes_none}
 
 further : (only : Option (List Text)) (selections others : Selections) → AreAlike selections others →
@@ -76,6 +76,7 @@ module _ (left : ℕ) (selections others : Selections) (file : Text) (files late
       RefusesOver (over_file left others file) files later before refused why
   refuses_alike refused why r = record {
     leaves = r.leaves;
+    memory = r.memory;
     ends = where_told files.held _ _ (λ held h. refuses_on (over_file left others file held false) (over_file left selections file held false)
         before before [] (passes_none before) (λ entries walk. walk_alike held false left selections others file entries alike walk) refused why h) r.ends;
   }

@@ -4,15 +4,16 @@ use Rattle.std.specs.Prelude.{IfSome}
 use Rattle.text_core.specs.declared.limits.TheConstants.{MOST_FILES}
 use Rattle.text_core.specs.Names.{Text}
 use Rattle.logic_core.specs.declared.problem.Fof.{Fof}
-use Rattle.io_core.specs.Causes.{Held}
+use Rattle.io_core.specs.Held.{Held}
 use Rattle.include_flat.specs.declared.refusal.FlatWhy.{FlatWhy}
 use Rattle.include_flat.specs.declared.refusal.FlatWhy.TheVariants.{Lex, Syntax, FileFault, FileTooLong, AllTooLong, IncludeDepth, TooManyFormulas, Memory}
 use Rattle.include_flat.specs.declared.walked.Walked.{Walked}
 use Rattle.include_flat.specs.Walks.{Entry}
-use Rattle.include_flat.specs.Flattened.{decision, decision_after, is_refused, kept_of, IsFlat, IsFlatRefused, IsFlatRefusal, IsOutside}
-use Rattle.include_flat.specs.Outside.{Known}
+use Rattle.include_flat.specs.Flattened.{decision, decision_after, is_refused, kept_of, IsFlat}
+use Rattle.include_flat.specs.Refusals.{IsFlatRefused, IsFlatRefusal, IsOutside}
+use Rattle.io_core.specs.Known.{Known}
 use Rattle.include_flat.specs.Progress.{over_file, decided, PassesOver, RefusesOver, PassesWhole, Refuses, selections_of}
-use Rattle.include_flat.proofs.Known.{where_told}
+use Rattle.include_flat.proofs.Told.{where_told}
 use Rattle.include_flat.proofs.OneAnswer.{one_list, never_both, not_refused, refused_alike}
 
 -- before anything is walked, what is decided is decided from the start

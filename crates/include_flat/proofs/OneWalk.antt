@@ -5,7 +5,7 @@ use Rattle.std.specs.Prelude.{IsFalse}
 use Rattle.std.proofs.lemmas.List.{append_assoc}
 use Rattle.text_core.specs.Names.{Text}
 use Rattle.logic_core.specs.declared.problem.Item.{Item}
-use Rattle.io_core.specs.Causes.{Held}
+use Rattle.io_core.specs.Held.{Held}
 use Rattle.tptp_lexer.specs.Tokens.{Token}
 use Rattle.tptp_lexer.proofs.Exact as exact
 use Rattle.tptp_grammar.specs.Texts.{AreItemsOf, SyntaxFault}

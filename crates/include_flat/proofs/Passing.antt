@@ -6,7 +6,7 @@ use Rattle.text_core.specs.Names.{Text}
 use Rattle.logic_core.specs.declared.problem.Fof.{Fof}
 use Rattle.logic_core.specs.declared.problem.Item.{Item}
 use Rattle.logic_core.specs.declared.problem.Item.TheVariants.{Fof as ItemFof, Include}
-use Rattle.io_core.specs.Causes.{Held}
+use Rattle.io_core.specs.Held.{Held}
 use Rattle.include_flat.specs.declared.refusal.FlatWhy.{FlatWhy}
 use Rattle.include_flat.specs.declared.refusal.FlatWhy.TheVariants.{Lex, Syntax, FileFault, FileTooLong, AllTooLong, IncludeDepth, TooManyFormulas, Memory}
 use Rattle.include_flat.specs.declared.walked.Walked.{Walked}
@@ -16,9 +16,11 @@ use Rattle.include_flat.specs.Walks.WalksFile.{too_deep, read}
 use Rattle.include_flat.specs.Walks.WalksBytes.{with_items}
 use Rattle.include_flat.specs.Walks.WalksItems.{cut, end, formula, inclusion, within}
 use Rattle.include_flat.specs.Flattened.{decision_after, is_refused, kept_of}
-use Rattle.include_flat.specs.Outside.{Known, Stays, Leaves}
+use Rattle.io_core.specs.Known.{Known, Stays}
+use Rattle.include_flat.specs.Opened.{Leaves}
 use Rattle.include_flat.specs.Progress.{bytes_of, decided, Passes, Refuses, over_file, over_items, PassesWhole, PassesOver, RefusesOver, OpensTo, Opens, refused_file, Refused, IsTooMany}
-use Rattle.include_flat.proofs.Known.{where_told, wherever_told, both_told, stays_same, stays_on, leaves_on}
+use Rattle.io_core.proofs.Laws.{stays_same, stays_on}
+use Rattle.include_flat.proofs.Told.{where_told, wherever_told, both_told, leaves_on}
 use Rattle.include_flat.proofs.Decisions.{undecided_front}
 
 bytes_of-append : (front rest : List Entry) → bytes_of (front ++ rest) ≡ bytes_of front + bytes_of rest
@@ -123,6 +125,7 @@ module _ (selections : Selections) (name copy : Text) (files later : Known) (bef
   depth_refused file why none stays is reason = let P : Text → FlatWhy → Type 0 = RefusesOver (over_file left selections name) files later before in
       subst (λ x. P x why) (sym (is ∙ same_name)) (subst (P name) (sym reason) (record {
         leaves = stays;
+        memory = tt;
         ends = wherever_told files.held _ (λ held. depth_refused_at held left selections name before none);
       }))
 
@@ -131,6 +134,7 @@ module _ (selections : Selections) (name copy : Text) (files later : Known) (bef
   file_refused file why reason some h is same = let P : Text → FlatWhy → Type 0 = RefusesOver (over_file left selections name) files later before in
       subst (λ x. P x why) (sym (is ∙ ap (λ (x : Text). refused_file x reason) same_name)) (subst (P (refused_file name reason)) (sym same) (record {
         leaves = leaves_none files later name reason h.leaves;
+        memory = h.memory;
         ends = where_told files.held _ _ (λ held r. subst (λ n. Refuses (over_file n selections name held false) before (refused_file name reason) reason)
             (one_more left some) (r.anywhere (left - 1) selections)) h.ends;
       }))
@@ -139,7 +143,7 @@ module _ (selections : Selections) (name copy : Text) (files later : Known) (bef
     pub file_passes : (after : Walked) → PassesOver (over_items (left - 1) selections copy items) middle later between after →
         PassesOver (over_file left selections name) files later before after
     file_passes after passes = let p = rw same_name at passes in record {
-      stays = stays_on files middle later opens.stays p.stays;
+      stays = stays_on opens.stays p.stays;
       whole = both_told files.held middle.held _ _ _ opens.stays.grows.held
           (λ held o w. subst (λ n. PassesWhole (over_file n selections name held) before after) (one_more left some)
           (file_passes_at held selections name items before between o (left - 1) after w)) opens.opens p.whole;
@@ -149,6 +153,7 @@ module _ (selections : Selections) (name copy : Text) (files later : Known) (bef
         RefusesOver (over_file left selections name) files later before file why
     file_refuses file why refuses = let r = rw same_name at refuses in record {
       leaves = leaves_on files middle later file why opens.stays r.leaves;
+      memory = r.memory;
       ends = both_told files.held middle.held _ _ _ opens.stays.grows.held
           (λ held o h. subst (λ n. Refuses (over_file n selections name held false) before file why) (one_more left some)
           (file_refuses_at held selections name items before between o (left - 1) file why h)) opens.opens r.ends;
@@ -159,7 +164,7 @@ pub memory_refused : (Part : Held → Bool → List Entry → Type 0) (files lat
     Stays files later → why ≡ Memory → file ≡ refused_file [] Memory → RefusesOver Part files later before file why
 memory_refused Part files later before file why stays reason is =
     subst (λ x. RefusesOver Part files later before x why) (sym is) (subst (RefusesOver Part files later before []) (sym reason)
-    (record { leaves = stays; ends = wherever_told files.held _ (λ held. refl) }))
+    (record { leaves = stays; memory = refl; ends = wherever_told files.held _ (λ held. refl) }))
 
 pub ruleset files_walked = (file_refused, file_refuses, memory_refused, stays_same)
 
@@ -240,6 +245,7 @@ module _ (files now : Known) (left : ℕ) (selections : Selections) (file : Text
         RefusesOver (over_items left selections file items) files now before file TooManyFormulas
     formula_too_many fof is many = let u = underway_at (ItemFof fof) is in record {
       leaves = u.stays;
+      memory = tt;
       ends = where_told files.held _ _ (λ held p. formula_refused held left selections file items before fof rest walked p many) u.passed;
     }
 
@@ -257,7 +263,7 @@ module _ (files now : Known) (left : ℕ) (selections : Selections) (file : Text
       pub inclusion_on : (after : Walked) → PassesOver (over_file left (with_selection only selections) name) now later walked after →
           Underway files later left selections file items rest before after
       inclusion_on after q = let u = underway_at (Include name only) is in record {
-        stays = stays_on files now later u.stays q.stays;
+        stays = stays_on u.stays q.stays;
         passed = both_told files.held now.held _ _ _ u.stays.grows.held
             (λ held p w. inclusion_passed held left selections file items before name only rest walked after p w) u.passed q.whole;
       }
@@ -267,6 +273,7 @@ module _ (files now : Known) (left : ℕ) (selections : Selections) (file : Text
           RefusesOver (over_items left selections file items) files later before refused why
       inclusion_ends refused why r = let u = underway_at (Include name only) is in record {
         leaves = leaves_on files now later refused why u.stays r.leaves;
+        memory = r.memory;
         ends = both_told files.held now.held _ _ _ u.stays.grows.held
             (λ held p h. inclusion_refused held left selections file items before name only rest walked refused why p h) u.passed r.ends;
       }

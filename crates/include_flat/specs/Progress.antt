@@ -5,15 +5,16 @@ use Rattle.text_core.specs.declared.limits.TheConstants.{MOST_FILE_BYTES}
 use Rattle.text_core.specs.Names.{Text}
 use Rattle.logic_core.specs.declared.problem.Fof.{Fof}
 use Rattle.logic_core.specs.declared.problem.Item.{Item}
-use Rattle.io_core.specs.Causes.{Held}
+use Rattle.io_core.specs.Held.{Held}
+use Rattle.io_core.specs.Known.{Known, Stays}
 use Rattle.include_flat.specs.declared.refusal.FlatWhy.{FlatWhy}
 use Rattle.include_flat.specs.declared.refusal.FlatWhy.TheVariants.{FileFault, TooManyFormulas, Memory}
 use Rattle.include_flat.specs.declared.walked.Walked.{Walked}
 use Rattle.include_flat.specs.Walks.{Entry, Selections, WalksFile, WalksItems, is_selected, kept_entries}
 use Rattle.include_flat.specs.Walks.Entry.{fetched}
-use Rattle.include_flat.specs.Flattened.{Decision, decision_after, is_refused, kept_of, AsksFor}
-use Rattle.include_flat.specs.Outside.{Known, Stays, Leaves}
-use Rattle.include_flat.specs.Opened.{AreBytesOf}
+use Rattle.include_flat.specs.Flattened.{Decision, decision_after, is_refused, kept_of}
+use Rattle.include_flat.specs.Refusals.{AsksFor, TellsMemoryAlone}
+use Rattle.include_flat.specs.Opened.{AreBytesOf, Leaves}
 
 -- how many bytes are fetched
 abbrev pub bytes_of : List Entry → ℕ
@@ -58,6 +59,7 @@ pub record PassesOver (Part : Held → Bool → List Entry → Type 0) (files la
 -- a refusal ends a part of a walk
 pub record RefusesOver (Part : Held → Bool → List Entry → Type 0) (files later : Known) (before : Walked) (file : Text) (why : FlatWhy) : Type 0 where
   pub leaves : Leaves files later file why
+  pub memory : TellsMemoryAlone file why
   pub ends : IfSome files.held (λ held. Refuses (Part held false) before file why)
 
 -- a file is fetched, and its bytes are a text of these items
@@ -83,6 +85,7 @@ pub record IsRefusedAt (held : Held) (file : Text) (before : Walked) (why : Flat
 
 pub record Refused (files later : Known) (file : Text) (before : Walked) (why : FlatWhy) : Type 0 where
   pub leaves : Leaves files later file why
+  pub memory : TellsMemoryAlone (refused_file file why) why
   pub ends : IfSome files.held (λ held. IsRefusedAt held file before why)
 
 -- a formula is one too many, in whatever file it stands
