@@ -5,6 +5,7 @@ pub mod Reading
 pub mod Moving
 pub mod Decided
 pub mod Agreement
+pub mod Answered
 pub mod Translated
 pub mod OfValues
 pub mod OneValue

@@ -4,5 +4,6 @@ pub mod Watch
 pub mod Plan
 pub mod Step
 pub mod Answers
+pub mod Answered
 pub mod Factored
 pub mod Values

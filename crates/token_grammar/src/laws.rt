@@ -2,6 +2,7 @@ ghost use Rattle.std.specs.Prelude.{◌≡◌, ◌↔◌, Bool, true, false, Lis
 ghost use Rattle.token_grammar.specs.Grammar.{IsText, BeginsText};
 ghost use Rattle.token_grammar.specs.Taken.{Taken};
 ghost use Rattle.token_grammar.specs.Answers.{IsAnswer, AreOne};
+ghost use Rattle.token_grammar.specs.Answered.{HasAnswer};
 ghost use Rattle.token_grammar.specs.declared.refusal.Refusal.{Refusal};
 
 use crate::part::Part;
@@ -34,4 +35,9 @@ pub fn fronts_begin<P: Part>()
     ensures whole { (start : P) (ts : List P.Token) → IsText P.grammar start ts → BeginsText P.grammar start ts }
     ensures fronts { (start : P) (front back : List P.Token) →
         BeginsText P.grammar start (front ++ back) → BeginsText P.grammar start front }
+{}
+
+/// Each list of tokens has an answer: it is a text in which the watcher finds no fault, or a token or the end is refused.
+pub fn tokens_have_answers<P: Part>()
+    ensures { (start : P) (before : P.Seen) (ts : List P.Token) → HasAnswer P.grammar P.watcher start before ts }
 {}

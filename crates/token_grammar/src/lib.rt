@@ -13,7 +13,7 @@ mod source;
 mod valued;
 
 pub use factored::{Factored, factored_agrees};
-pub use laws::{answers_agree, fronts_begin, takers_agree, texts_are_taken};
+pub use laws::{answers_agree, fronts_begin, takers_agree, texts_are_taken, tokens_have_answers};
 pub use machine::recognize;
 pub use part::{Part, Step, expand};
 pub use refusal::Refusal;
