@@ -1,4 +1,5 @@
 pub mod OneWalk
+pub mod SomeWalk
 pub mod Decisions
 pub mod OneAnswer
 pub mod Selecting

@@ -1,4 +1,4 @@
--- A file that cannot be opened is refused, at whatever place of a walk it stands.
+-- A file that cannot be opened is refused, wherever in a walk it is.
 use Rattle.std.proofs.Common.{ℕ, suc, ◌≡◌, ◌+◌, ◌≤◌, ◌<◌, ◌⊎◌, inl, inr, Bool, true, false, List, [], ◌∷◌, length, Option, Some, None, refl, sym, subst, ◌∙◌, append-nil, arith, nat_lt}
 use Rattle.std.specs.Prelude.{IsSomeAnd}
 use Rattle.std.proofs.lemmas.Bool.Decides.{nat_tests}
@@ -15,7 +15,7 @@ use Rattle.include_flat.specs.declared.walked.Walked.{Walked}
 use Rattle.include_flat.specs.Walks.{Entry, Selections, WalksFile}
 use Rattle.include_flat.specs.Walks.Entry.{fetched, missing, stop}
 use Rattle.include_flat.specs.Walks.WalksFile.{not_held, too_long, read}
-use Rattle.include_flat.specs.Walks.WalksBytes.{unread, no_tokens, no_items}
+use Rattle.include_flat.specs.Walks.WalksBytes.{no_tokens, no_items}
 use Rattle.include_flat.specs.Refusals.{AsksFor, TellsMemoryAlone}
 use Rattle.io_core.specs.Known.{Known, Stays, Fails, Holds, IsLong, IsTooLong}
 use Rattle.io_core.specs.declared.files.FetchFault.{FetchFault}
@@ -26,37 +26,27 @@ use Rattle.include_flat.specs.Opened.{Leaves}
 use Rattle.include_flat.specs.Opened.{AreBytesOf, IsTextRefusal, fetch_why}
 use Rattle.include_flat.specs.Progress.{Refuses, IsRefusedAt, Refused, OpensTo, Opens, refused_file}
 use Rattle.include_flat.proofs.Told.{where_told, wherever_told}
+use Rattle.include_flat.proofs.SomeWalk.{some_walk, some_walk_of_bytes}
 
-short_or_long : (bytes : Text) → (length bytes ≤ MOST_FILE_BYTES) ⊎ (MOST_FILE_BYTES < length bytes)
-short_or_long bytes = by (nat_lt MOST_FILE_BYTES (length bytes)) refl
-  where
-    by : (test : Bool) → nat_lt MOST_FILE_BYTES (length bytes) ≡ test → (length bytes ≤ MOST_FILE_BYTES) ⊎ (MOST_FILE_BYTES < length bytes)
-    by true e = inr (grind (arith, nat_tests))
-    by false e = inl (grind (arith, nat_tests))
-
--- each file is asked for
-asked : (held : Held) (name : Text) (left : ℕ) (selections : Selections) →
-    (entry : Entry) × WalksFile held false (suc left) selections name (entry ∷ []) × AsksFor name entry
-asked held name left selections = by (finite.get held name) refl
-  where
-    opened : (bytes : Text) → finite.get held name ≡ Some bytes → (length bytes ≤ MOST_FILE_BYTES) ⊎ (MOST_FILE_BYTES < length bytes) →
-        (entry : Entry) × WalksFile held false (suc left) selections name (entry ∷ []) × AsksFor name entry
-    opened bytes e (inl short) = (fetched name (length bytes), read bytes e short (unread refl), refl)
-    opened bytes e (inr long) = (stop name FileTooLong, too_long bytes e long, refl)
-
-    by : (found : Option Text) → finite.get held name ≡ found → (entry : Entry) × WalksFile held false (suc left) selections name (entry ∷ []) × AsksFor name entry
-    by None e = (missing name, not_held e, refl)
-    by (Some bytes) e = opened bytes e (short_or_long bytes)
+-- the walk over a file begins by asking for it
+asked : (held : Held) (name : Text) (left : ℕ) (selections : Selections) (entries : List Entry) → WalksFile held (suc left) selections name entries →
+    (entry : Entry) × (back : List Entry) × WalksFile held (suc left) selections name (entry ∷ back) × AsksFor name entry
+asked held name left selections _ (not_held none) = (missing name, [], not_held none, refl)
+asked held name left selections _ (too_long bytes is long) = (stop name FileTooLong, [], too_long bytes is long, refl)
+asked held name left selections _ (read {entries = rest} bytes is short walk) = (fetched name (length bytes), rest, read bytes is short walk, refl)
 
 long_refused : (held : Held) (name : Text) (before : Walked) (left : ℕ) (selections : Selections) (found : Option Text) → finite.get held name ≡ found →
-    IsSomeAnd found (λ bytes. MOST_FILE_BYTES < length bytes) → Refuses (WalksFile held false (suc left) selections name) before name FileTooLong
+    IsSomeAnd found (λ bytes. MOST_FILE_BYTES < length bytes) → Refuses (WalksFile held (suc left) selections name) before name FileTooLong
 long_refused held name before left selections None e long = absurd long
 long_refused held name before left selections (Some bytes) e long = (stop name FileTooLong ∷ [], too_long bytes e long, refl)
 
 -- a file that could not be fetched
 fault_refused_at : (held : Held) (name : Text) (before : Walked) → IsRefusedAt held name before FileFault
 fault_refused_at held name before = record {
-  anywhere = λ left selections. let (entry, front, asks) = asked held name left selections in ([], entry, front, asks, refl);
+  anywhere = λ left selections.
+      let some = some_walk held (suc left) selections name in
+      let (entry, back, walk, asks) = asked held name left selections some.entries some.walk in
+      ([], entry, back, walk, asks, refl);
 }
 
 -- a file that is too long
@@ -75,7 +65,9 @@ within before n few = grind (arith, nat_tests)
 count_refused_at : (held : Held) (name bytes : Text) (before : Walked) → finite.get held name ≡ Some bytes → length bytes ≤ MOST_FILE_BYTES → MOST_PROBLEM_BYTES < before.bytes + length bytes →
     IsRefusedAt held name before AllTooLong
 count_refused_at held name bytes before is short many = record {
-  anywhere = λ left selections. (fetched name (length bytes) ∷ [], read bytes is short (unread refl), rw (over before (length bytes) many));
+  anywhere = λ left selections.
+      let some = some_walk_of_bytes held left selections name bytes in
+      (fetched name (length bytes) ∷ some.entries, read bytes is short some.walk, rw (over before (length bytes) many));
 }
 
 -- the bytes are a text of no items

@@ -1,5 +1,5 @@
 -- What decides a walk, and the problem that it gives where nothing does.
-use Rattle.std.specs.Prelude.{ℕ, ◌+◌, ◌≡◌, nat_lt, nat_le, Bool, true, List, [], ◌∷◌, Option, Some, None, if◌then◌else◌}
+use Rattle.std.specs.Prelude.{ℕ, ◌+◌, ◌≡◌, nat_lt, nat_le, List, [], ◌∷◌, Option, Some, None, if◌then◌else◌}
 use Rattle.text_core.specs.declared.limits.TheConstants.{MOST_FILES, MOST_FORMULAS, MOST_PROBLEM_BYTES}
 use Rattle.text_core.specs.Names.{Text}
 use Rattle.logic_core.specs.declared.problem.Fof.{Fof}
@@ -33,10 +33,11 @@ kept_of [] = []
 kept_of (kept file fof ∷ entries) = fof ∷ kept_of entries
 kept_of (_ ∷ entries) = kept_of entries
 
--- the walk from a first file on, whole or up to some entry
-abbrev pub Walks : Held → Bool → Text → List Entry → Type 0
-Walks held whole name entries = WalksFile held whole MOST_FILES [] name entries
+-- the walk from a first file on
+abbrev pub Walks : Held → Text → List Entry → Type 0
+Walks held name entries = WalksFile held MOST_FILES [] name entries
 
 -- nothing decides the walk, and these are its formulas
 abbrev pub IsFlat : Held → Text → List Fof → Type 0
-IsFlat held name problem = (entries : List Entry) × Walks held true name entries × (decision entries ≡ None) × (problem ≡ kept_of entries)
+IsFlat held name problem = (entries : List Entry) × Walks held name entries ×
+    (decision entries ≡ None) × (problem ≡ kept_of entries)

@@ -8,6 +8,6 @@ mod selected;
 mod walk;
 mod walked;
 
-pub use law::{never_flat_and_refused, one_deciding_refusal, one_flat_problem};
+pub use law::{flat_or_decided, never_flat_and_refused, one_deciding_refusal, one_flat_problem};
 pub use refusal::{FlatRefusal, FlatWhy};
 pub use walk::flatten;
