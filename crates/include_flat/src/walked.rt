@@ -1,4 +1,5 @@
 ghost use Rattle.std.specs.Prelude.{◌≡◌, ◌+◌, ◌++◌, ◌∷◌, [], ◌<◌, ◌≤◌, ◌⊎◌, length, OnOk, IfErr};
+ghost use Rattle.text_core.specs.declared.limits.TheConstants.{MOST_PROBLEM_BYTES};
 ghost use Rattle.logic_core.specs.Problems.{FofMayStand};
 ghost use Rattle.include_flat.specs.declared.refusal.FlatWhy.TheVariants as whys;
 
