@@ -1,11 +1,10 @@
-//! Takes two large trees through the calls of `Proof`, as often as the argument says, or once: 65,536 rule
-//! applications in a row, and 200 splits within one another. Prints how many applications each has.
-#![tactic(auto)]
+//! Takes two large trees through the calls of `Proof`, as often as the word says, or once: 65,536 rule applications in a
+//! row, and 200 splits within one another. Prints how many applications each has.
 
+use crate::number;
 use anyhow::Error;
 use logic_core::{List, Memory};
 use std::alloc::Global;
-use std::env;
 use vernacular_tree::{Node, Proof, TreeRefusal};
 
 fn push_step(alloc: Global, nodes: &mut List<Node>) -> Result<(), Memory> {
@@ -61,15 +60,14 @@ fn go_through(alloc: Global, nodes: &List<Node>, rounds: u32) -> Result<u32, Tre
     Ok(size)
 }
 
-fn main(rt: HostRuntime) -> Result<(), Error> {
+/// Takes one number: how many rounds.
+pub(crate) fn run(rt: &HostRuntime, words: &[String]) -> Result<(), Error> {
     let alloc = rt.alloc();
-    let rounds = match env::args(&rt)?.skip(1).next() {
-        Some(word) => word.parse()?,
-        None => 1,
-    };
+    let rounds = number(words, 0)?;
+    let out = rt.stdout();
     let row_size = go_through(alloc, &row(alloc).map_err(TreeRefusal::from)?, rounds)?;
-    println!(rt; "in a row: {row_size}")?;
+    println!(out; "in a row: {row_size}")?;
     let nest_size = go_through(alloc, &nest(alloc).map_err(TreeRefusal::from)?, rounds)?;
-    println!(rt; "nested: {nest_size}")?;
+    println!(out; "nested: {nest_size}")?;
     Ok(())
 }

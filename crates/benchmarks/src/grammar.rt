@@ -1,11 +1,10 @@
-//! How fast the machine reads a long expression, beside a plain pass over the same tokens. With no words it reads a short one and
-//! prints no times; the word `time` makes it read four million tokens and print them.
-#![tactic(auto)]
+//! How fast the machine reads a long expression, beside a plain pass over the same tokens. With no words it reads a
+//! short one and prints no times; the word `time` makes it read four million tokens and print them.
 
-use text_core::Memory;
+use anyhow::Error;
 use std::alloc::Global;
 use std::time::Instant;
-use std::{env, io};
+use text_core::Memory;
 use token_grammar_examples::expression::{Mark, read_expression};
 
 // An expression of nested brackets, with five tokens for each level.
@@ -29,25 +28,27 @@ fn numbers(marks: &Vec<Mark>) -> usize {
     marks.iter().filter(|mark| **mark == Mark::Number).count()
 }
 
-fn main(rt: HostRuntime) -> io::Result<()> {
-    let timed = env::args(&rt)?.any(|word| word.as_str() == "time");
+/// Takes the word `time`, or none.
+pub(crate) fn run(rt: &HostRuntime, words: &[String]) -> Result<(), Error> {
+    let out = rt.stdout();
+    let timed = words.iter().any(|word| word.as_str() == "time");
     let levels = if timed { 800_000 } else { 1_000 };
     let Ok(marks) = nested(rt.alloc(), levels) else {
-        println!(rt; "no memory")?;
+        println!(out; "no memory")?;
         return Ok(());
     };
-    let start = Instant::now(&rt)?;
+    let start = Instant::now(rt)?;
     let count = numbers(&marks);
-    let plain = start.elapsed(&rt)?;
-    let start = Instant::now(&rt)?;
+    let plain = start.elapsed(rt)?;
+    let start = Instant::now(rt)?;
     let taken = read_expression(rt.alloc(), &marks).is_ok();
-    let read = start.elapsed(&rt)?;
-    println!(rt;
+    let read = start.elapsed(rt)?;
+    println!(out;
         "{} tokens, {count} of them numbers, a text: {taken}",
         marks.len()
     )?;
     if timed {
-        println!(rt;
+        println!(out;
             "plain pass: {} us, machine: {} us",
             plain.as_micros(),
             read.as_micros()

@@ -1,14 +1,13 @@
 //! Adds facts to a store, looks each of them up, and takes all back, as many and as often as the words say. Prints how
 //! many were added and how many were found in the last round.
-#![tactic(auto)]
 
 ghost use Rattle.std.specs.Prelude.{◌≡◌, ◌<◌};
 
+use crate::number;
 use anyhow::Error;
 use fact_store::Store;
-use text_core::Memory;
 use std::alloc::{AllocError, Global};
-use std::env;
+use text_core::Memory;
 
 /// Adds facts of one symbol, each with two elements; how many were new.
 fn fill(store: &mut Store, facts: u32) -> Result<u32, Memory>
@@ -37,14 +36,6 @@ fn find(store: &Store, facts: u32) -> u32 {
     found
 }
 
-/// The number that a word of the command line is, or 1 where the word is not there.
-fn number(word: Option<String>) -> Result<u32, Error> {
-    match word {
-        Some(word) => Ok(word.parse()?),
-        None => Ok(1),
-    }
-}
-
 /// Fills a store, looks each fact up so often, and takes all back: how many were added, found and left.
 fn round(alloc: Global, facts: u32, finds: u32) -> Result<(u32, u32, u32), Memory> {
     let mut store = Store::new(alloc, 2)?;
@@ -58,18 +49,18 @@ fn round(alloc: Global, facts: u32, finds: u32) -> Result<(u32, u32, u32), Memor
 }
 
 /// Takes three numbers: how many facts, how often they are added and taken back, and how often each is looked up.
-fn main(rt: HostRuntime) -> Result<(), Error> {
-    let mut words = env::args(&rt)?.skip(1);
-    let facts = number(words.next())?;
-    let fills = number(words.next())?;
-    let finds = number(words.next())?;
+pub(crate) fn run(rt: &HostRuntime, words: &[String]) -> Result<(), Error> {
+    let out = rt.stdout();
+    let facts = number(words, 0)?;
+    let fills = number(words, 1)?;
+    let finds = number(words, 2)?;
     let mut last = (0, 0, 0);
     for _ in 0..fills {
         last = round(rt.alloc(), facts, finds).map_err(|_| AllocError)?;
     }
     let (added, found, left) = last;
-    println!(rt; "added: {added}")?;
-    println!(rt; "found: {found}")?;
-    println!(rt; "left: {left}")?;
+    println!(out; "added: {added}")?;
+    println!(out; "found: {found}")?;
+    println!(out; "left: {left}")?;
     Ok(())
 }

@@ -2,8 +2,8 @@
 # Tokens per second of the token machine on a made text of four million tokens, beside a plain pass over the same tokens.
 # Prints one run; it is no test.
 set -e
-cd "$(dirname "$0")/../crates/grammar_speed"
-rt run -- time | awk '
+cd "$(dirname "$0")/../crates/benchmarks"
+rt run -- grammar time | awk '
     / tokens, / { tokens = $1 }
     /^plain pass/ { plain = $3; machine = $6 }
     END {

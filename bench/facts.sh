@@ -2,11 +2,11 @@
 # Tells how many facts of one symbol a store adds and takes back, and how many it looks up, in a second, for 10,000, 100,000
 # and 1,000,000 of them. Neither number may fall with the number of facts, but for what the caches of the machine cost. Nothing is
 # asserted.
-# Build the program first: `rt run` in crates/fact_store_bench.
-program="$(dirname "$0")/../crates/fact_store_bench/out/fact_store_bench"
+# Build the program first: `rt run` in crates/benchmarks.
+program="$(dirname "$0")/../crates/benchmarks/out/benchmarks"
 took() {
     start=$(date +%s%N)
-    "$program" "$@" >/dev/null || exit 1
+    "$program" facts "$@" >/dev/null || exit 1
     echo $(($(date +%s%N) - start))
 }
 for facts in 10000 100000 1000000; do

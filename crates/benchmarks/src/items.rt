@@ -1,20 +1,16 @@
-//! Times `tokens` and `read_items` on the bytes of files, beside counting the line feeds of the same bytes. Without an
-//! argument it does nothing; bench/items makes the files and runs it.
-#![tactic(auto)]
+//! Times `tokens` and `read_items` on the bytes of files, beside counting the line feeds of the same bytes; bench/items
+//! makes the files.
 
-use std::time::{Duration, Instant};
-use std::{env, fs, io};
+use crate::timing::{counting, micros};
+use anyhow::Error;
+use std::fs;
+use std::time::Instant;
 use tptp_grammar::read_items;
 use tptp_lexer::tokens;
 
 const TURNS: u32 = 5;
 
 const MOST: usize = 1 << 31;
-
-/// The number of line feeds.
-fn feeds(bytes: &[u8]) -> usize {
-    bytes.iter().filter(|byte| **byte == b'\n').count()
-}
 
 /// The number of items, and 0 where the bytes are no text of items.
 fn items(rt: &HostRuntime, bytes: &[u8]) -> usize {
@@ -30,23 +26,12 @@ fn items(rt: &HostRuntime, bytes: &[u8]) -> usize {
     }
 }
 
-/// The microseconds of a time, and 1 for less than one.
-fn micros(time: Duration) -> u128 {
-    let micros = time.as_micros();
-    if micros == 0 { 1 } else { micros }
-}
-
 /// Prints a line for a file: its bytes and items, and the microseconds for all turns of each.
-fn time_file(rt: &HostRuntime, name: &str) -> io::Result<()> {
+fn time_file(rt: &HostRuntime, name: &str) -> Result<(), Error> {
     let out = rt.stdout();
     let bytes = fs::read(rt, name)?;
     let bytes = bytes.as_slice();
-    let start = Instant::now(rt)?;
-    let mut lines = 0;
-    for _ in 0..TURNS {
-        lines = feeds(bytes);
-    }
-    let counting = micros(start.elapsed(rt)?);
+    let (lines, counting) = counting(rt, bytes, TURNS)?;
     let start = Instant::now(rt)?;
     let mut found = 0;
     for _ in 0..TURNS {
@@ -61,9 +46,10 @@ fn time_file(rt: &HostRuntime, name: &str) -> io::Result<()> {
     Ok(())
 }
 
-fn main(rt: HostRuntime) -> io::Result<()> {
-    for name in env::args(&rt)?.skip(1) {
-        time_file(&rt, name.as_str())?;
+/// Times each of the files.
+pub(crate) fn run(rt: &HostRuntime, files: &[String]) -> Result<(), Error> {
+    for name in files {
+        time_file(rt, name.as_str())?;
     }
     Ok(())
 }
