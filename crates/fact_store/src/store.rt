@@ -136,31 +136,31 @@ impl Store {
         self.entries.len() as u32
     }
 
-    /// A mark to which `undo` goes back: the number of facts.
-    pub fn mark(&self) -> u32
+    /// An undo point, to which `undo` goes back: how many facts there are.
+    pub fn undo_point(&self) -> u32
         ensures { result ≡ length self.now.facts }
     {
         self.entries.len() as u32
     }
 
-    /// Takes back all facts but the first ones, and makes what they took spare again.
-    pub fn undo(&mut self, mark: u32)
-        requires { mark ≤ length self.old.facts }
+    /// Takes back all facts that were added since an undo point, and makes what they took spare again.
+    pub fn undo(&mut self, undo_point: u32)
+        requires { undo_point ≤ length self.old.facts }
         ensures { self.new ≡ record self.old {
-          facts = take mark self.old.facts;
-          spare_facts = self.old.spare_facts + (length self.old.facts - mark);
-          spare_args = self.old.spare_args + sum_by (λ fact. length fact.args) (drop mark self.old.facts);
+          facts = take undo_point self.old.facts;
+          spare_facts = self.old.spare_facts + (length self.old.facts - undo_point);
+          spare_args = self.old.spare_args + sum_by (λ fact. length fact.args) (drop undo_point self.old.facts);
         } }
     {
-        let mark = mark as usize;
-        if mark >= self.entries.len() {
+        let kept = undo_point as usize;
+        if kept >= self.entries.len() {
             return;
         }
-        let start = self.entries[mark].start;
-        self.by_symbol.cut(mark);
-        self.by_bucket.cut(mark);
+        let start = self.entries[kept].start;
+        self.by_symbol.cut(kept);
+        self.by_bucket.cut(kept);
         self.args.truncate(start);
-        self.entries.truncate(mark);
+        self.entries.truncate(kept);
     }
 
     /// The newest fact with this symbol; `None` exactly where there is none.

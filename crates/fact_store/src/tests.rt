@@ -33,27 +33,28 @@ fn chains_of_symbols(rt: HostRuntime) -> Result<(), Fail> {
     Ok(())
 }
 
-// One turn in a store and in a plain list: a mark, a way back to the last mark, or a fact. Whether both agree.
+// One turn in a store and in a plain list: an undo point, a way back to the last one, or a fact. Whether both
+// agree.
 fn turns_alike(
     store: &mut Store,
     list: &mut Vec<(u32, u32)>,
-    marks: &mut Vec<u32>,
+    points: &mut Vec<u32>,
     turn: u32,
 ) -> Result<bool, Fail>
     requires { 1 < store.old.signed }
     ensures { store.new.signed ≡ store.old.signed }
 {
     if turn % 50 == 10 || turn % 50 == 20 {
-        marks.push(store.mark())?;
+        points.push(store.undo_point())?;
         return Ok(true);
     }
     if turn % 50 == 30 || turn % 50 == 40 {
-        let mark = marks.pop().unwrap_or(0);
-        list.truncate(mark as usize);
-        if mark > store.len() {
+        let point = points.pop().unwrap_or(0);
+        list.truncate(point as usize);
+        if point > store.len() {
             return Ok(false);
         }
-        store.undo(mark);
+        store.undo(point);
         return Ok(true);
     }
     let mixed = turn.wrapping_mul(2_654_435_761) >> 16;
@@ -84,9 +85,9 @@ fn are_alike(store: &Store, list: &[(u32, u32)]) -> bool {
 fn as_a_list(rt: HostRuntime) -> Result<(), Fail> {
     let mut store = Store::new(rt.alloc(), 2)?;
     let mut list = Vec::new(rt.alloc());
-    let mut marks = Vec::new(rt.alloc());
+    let mut points = Vec::new(rt.alloc());
     for turn in 0..1000 {
-        let alike = turns_alike(&mut store, &mut list, &mut marks, turn)?;
+        let alike = turns_alike(&mut store, &mut list, &mut points, turn)?;
         assert!(rt; alike && are_alike(&store, &list));
     }
     assert!(rt; store.len() > 50);

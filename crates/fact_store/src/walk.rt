@@ -20,16 +20,16 @@ pub(crate) fn stands_in(
     ensures { result ≡ stands signed sought.now (facts_in args.now entries.now) }
 {
     let mut at = buckets.newest(bucket(signed, sought, buckets.width() as u32));
-    while let Some(place) = at {
-        if is_entry_of(signed, sought, entries[place as usize], args) {
+    while let Some(number) = at {
+        if is_entry_of(signed, sought, entries[number as usize], args) {
             return true;
         }
-        at = buckets.older(place);
+        at = buckets.older(number);
     }
     false
 }
 
-/// Makes room for so many places, and as many buckets at least; where there are too few, their number doubles.
+/// Makes room for so many facts, and as many buckets at least; where there are too few, their number doubles.
 /// `Memory` is want of memory, and the buckets are as before.
 pub(crate) fn grow(
     alloc: Global,
@@ -53,7 +53,7 @@ pub(crate) fn grow(
     Ok(())
 }
 
-/// All entries in as many buckets as there are to be, with room for as many places.
+/// All entries in as many buckets as there are to be, with room for as many facts.
 fn in_buckets(
     alloc: Global,
     entries: &[Entry],

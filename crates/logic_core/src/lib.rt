@@ -1,5 +1,5 @@
-//! What every other crate of Hogbygone speaks of: lists and names, formulas and problems as the TPTP writes
-//! them, coherent forms, and structures with what is true in them.
+//! What every other crate of Hogbygone speaks of: lists and names, formulas and problems as the
+//! TPTP writes them, coherent forms, and structures with what is true in them.
 #![tactic(auto)]
 
 mod form;

@@ -1,8 +1,9 @@
 ghost use Rattle.std.specs.Prelude.{◌≡◌, ◌≤◌, IfOk};
-ghost use Rattle.logic_core.specs.Nesting.{depth, nesting};
+ghost use Rattle.logic_core.specs.Allowed.{depth, nesting};
 
 use crate::{Boxed, Bytes, Fof, Formula, Item, Items, List, Name, Problem, Role, Term};
 use std::test::Fail;
+use text_core::MOST_LEVELS;
 
 /// `! [X] : p(X)`
 #[tactic(auto, using(crate::proofs::Built::built))]
@@ -21,7 +22,7 @@ fn variable_formula(rt: &HostRuntime) -> Result<Formula, Fail>
 /// `! [X] : p(X) & q`
 #[tactic(auto, using(crate::proofs::Built::built))]
 fn conjunction(rt: &HostRuntime) -> Result<Formula, Fail>
-    ensures { IfOk result (λ f. nesting f ≤ 200) }
+    ensures { IfOk result (λ f. nesting f ≤ MOST_LEVELS) }
 {
     let alloc = rt.alloc();
     let mut members = List::new(alloc);
@@ -59,7 +60,7 @@ fn a_quantified_member_of_a_conjunction_is_copied(rt: HostRuntime) -> Result<(),
 }
 
 #[test]
-fn items_and_problems_take_what_may_stand(rt: HostRuntime) -> Result<(), Fail> {
+fn items_and_problems_take_what_is_allowed(rt: HostRuntime) -> Result<(), Fail> {
     let alloc = rt.alloc();
     let mut items = Items::new(alloc);
     items.push(Item::Include {

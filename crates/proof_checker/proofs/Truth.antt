@@ -17,7 +17,7 @@ use Rattle.logic_core.specs.declared.problem.Role.{Role}
 use Rattle.logic_core.specs.declared.problem.Role.TheVariants.{Axiom, Conjecture, Hypothesis, Definition, Assumption, Lemma, Theorem, Corollary, NegatedConjecture}
 use Rattle.vernacular_tree.specs.declared.tree.Body.{Body}
 use Rattle.vernacular_tree.specs.Tasks.{IsTask}
-use Rattle.vernacular_tree.proofs.Truths.{goal_true}
+use Rattle.vernacular_tree.proofs.Laws.{goal_true}
 use Rattle.proof_checker.specs.declared.ground.GroundAtom.{GroundAtom}
 use Rattle.proof_checker.specs.declared.ground.GroundFormula.{GroundFormula}
 use Rattle.proof_checker.specs.declared.ground.CitedFact.{CitedFact}

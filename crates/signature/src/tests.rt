@@ -1,6 +1,6 @@
 use crate::Tables;
-use text_core::Name;
 use std::test::Fail;
+use text_core::Name;
 
 #[test]
 fn symbol_of_a_number(rt: HostRuntime) -> Result<(), Fail> {

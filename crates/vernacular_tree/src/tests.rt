@@ -18,8 +18,8 @@ fn answer(alloc: Global) -> Result<Node, Memory> {
     })
 }
 
-/// A proof of r(c) from p(c) | q(c), p(X) => r(X) and q(X) => r(X): the first form, a split of line 1, and in
-/// each case the form for it and the goal.
+/// A proof of r(c) from p(c) | q(c), p(X) => r(X) and q(X) => r(X): the first form, a split of line
+/// 1, and in each case the form for it and the goal.
 fn split_nodes(alloc: Global) -> Result<List<Node>, Memory> {
     let mut nodes = List::new(alloc);
     nodes.push(mp(alloc, 0, &[])?)?;

@@ -1,5 +1,5 @@
 use Rattle.vernacular_tree.proofs.Kept.{start_is_context, after_is_context, case_is_context}
-use Rattle.vernacular_tree.proofs.laws.rules_keep_contexts.Goals as goal
+use Rattle.vernacular_tree.proofs.law.rules_keep_contexts.Goals as goal
 
 pub returns : goal.returns
 returns c = record {

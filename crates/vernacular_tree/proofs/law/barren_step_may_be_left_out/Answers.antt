@@ -1,5 +1,5 @@
 use Rattle.vernacular_tree.proofs.Lowered.{without_proves, without_size}
-use Rattle.vernacular_tree.proofs.laws.barren_step_may_be_left_out.Goals as goal
+use Rattle.vernacular_tree.proofs.law.barren_step_may_be_left_out.Goals as goal
 
 pub returns : goal.returns
 returns c = record {

@@ -3,7 +3,7 @@ use Rattle.logic_core.specs.Truth.{structure}
 use Rattle.logic_core.specs.Forms.{interpretation}
 use Rattle.text_core.specs.Numbered.{text_or_empty}
 use Rattle.vernacular_tree.proofs.Truths.{goal_true}
-use Rattle.vernacular_tree.proofs.laws.soundness.Goals as goal
+use Rattle.vernacular_tree.proofs.law.soundness.Goals as goal
 
 pub returns : goal.returns
 returns g c tables task body k right proves forms universals given premises =

@@ -2,7 +2,7 @@ use Rattle.std.proofs.Common.{◌≡◌, ◌+◌, length, arith, ◌≤◌}
 use Rattle.vernacular_tree.specs.Barren.{without}
 use Rattle.vernacular_tree.specs.Sizes.{size}
 use Rattle.vernacular_tree.proofs.Lowered.{without_proves, without_size}
-use Rattle.vernacular_tree.proofs.laws.least_proof_has_no_barren_step.Goals as goal
+use Rattle.vernacular_tree.proofs.law.least_proof_has_no_barren_step.Goals as goal
 
 pub returns : goal.returns
 returns c task context body path step least barren =
