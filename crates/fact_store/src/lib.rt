@@ -4,8 +4,6 @@
 mod chains;
 mod entry;
 mod store;
-#[cfg(test)]
-mod tests;
 mod walk;
 
 pub use store::Store;

@@ -18,8 +18,6 @@ mod refusal;
 mod role;
 mod scopes;
 mod symbol;
-#[cfg(test)]
-mod tests;
 
 pub use items::read_items;
 pub use laws::{items_are_one, never_items_and_refusal, printed_agrees, refusals_are_one};

@@ -12,8 +12,6 @@ mod name;
 mod piece;
 mod quote;
 mod refusal;
-#[cfg(test)]
-mod tests;
 mod token;
 mod token_list;
 

@@ -1,6 +1,6 @@
 ghost use Rattle.std.specs.Prelude.{◌≡◌, ◌<◌, ◌≤◌};
 
-use crate::Store;
+use fact_store::Store;
 use std::test::Fail;
 
 // Adds a fact, after room was made for it.

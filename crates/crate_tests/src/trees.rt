@@ -1,8 +1,8 @@
-use super::*;
-use crate::tree_copy::copy_body;
 use logic_core::{List, Memory};
 use std::alloc::Global;
-use std::test::*;
+use std::test::Fail;
+use text_core::{MOST_APPLICATIONS, MOST_SPLITS};
+use vernacular_tree::{Body, End, Node, Proof, TreeRefusal};
 
 fn mp(alloc: Global, form: u32, args: &[u32]) -> Result<Node, Memory> {
     Ok(Node::Mp {
@@ -80,9 +80,57 @@ fn split_goes_through_every_call(rt: HostRuntime) -> Result<(), Fail> {
     assert!(rt; are_split_nodes(&proof.to_nodes(alloc)?));
     let copy = proof.try_copy(alloc)?;
     assert_eq!(rt; copy.size(), 6);
-    let again = Proof::new(copy_body(alloc, copy.body())?);
+    let again = Proof::from_nodes(alloc, &copy.to_nodes(alloc)?)?;
     assert_eq!(rt; again.size(), 6);
     assert!(rt; are_split_nodes(&again.to_nodes(alloc)?));
+    Ok(())
+}
+
+#[test]
+fn one_application_is_a_proof(rt: HostRuntime) -> Result<(), Fail> {
+    let proof = Proof::new(Body {
+        steps: List::new(rt.alloc()),
+        end: End::Efq,
+    });
+    assert_eq!(rt; proof.size(), 1);
+    assert!(rt; matches!(&proof.body().end, End::Efq));
+    Ok(())
+}
+
+/// So many steps in a row, and the answer behind them.
+fn row(alloc: Global, steps: u32) -> Result<List<Node>, Memory> {
+    let mut nodes = List::new(alloc);
+    for _ in 0..steps {
+        nodes.push(mp(alloc, 0, &[])?)?;
+    }
+    nodes.push(answer(alloc)?)?;
+    Ok(nodes)
+}
+
+/// So many splits within one another, each of one case, and the answer behind them.
+fn nest(alloc: Global, splits: u32) -> Result<List<Node>, Memory> {
+    let mut nodes = List::new(alloc);
+    for _ in 0..splits {
+        nodes.push(Node::Cs {
+            line: 1,
+            branches: 1,
+        })?;
+    }
+    nodes.push(answer(alloc)?)?;
+    Ok(nodes)
+}
+
+#[test]
+fn a_proof_has_at_most_so_many_applications_and_splits(rt: HostRuntime) -> Result<(), Fail> {
+    let alloc = rt.alloc();
+    for (nodes, is_proof) in [
+        (row(alloc, MOST_APPLICATIONS - 1)?, true),
+        (row(alloc, MOST_APPLICATIONS)?, false),
+        (nest(alloc, MOST_SPLITS)?, true),
+        (nest(alloc, MOST_SPLITS + 1)?, false),
+    ] {
+        assert_eq!(rt; Proof::from_nodes(alloc, &nodes).is_ok(), is_proof);
+    }
     Ok(())
 }
 

@@ -1,7 +1,7 @@
-use super::*;
 use std::alloc::{AllocError, Global};
 use std::fmt::Write;
-use std::test::*;
+use std::test::Fail;
+use tptp_lexer::{Kind, LexRefusal, tokens};
 
 // The tokens of a text, each as its kind, its start and its end; or the refusal.
 fn told(alloc: Global, text: &str) -> Result<String, AllocError> {

@@ -1,7 +1,8 @@
-use crate::{SyntaxRefusal, read_items};
 use logic_core::Items;
 use std::alloc::Global;
 use std::test::Fail;
+use text_core::MOST_LEVELS;
+use tptp_grammar::{SyntaxRefusal, read_items};
 use tptp_lexer::tokens;
 
 // Texts that are no text of items, each with the number and the place of its refusal.
@@ -166,5 +167,24 @@ fn texts_of_items_are_read(rt: HostRuntime) -> Result<(), Fail> {
             Err(_) => assert!(rt; false),
         }
     }
+    Ok(())
+}
+
+/// An axiom that is the negation of a negation, and so on, so many of them.
+fn negations(alloc: Global, count: u32) -> Result<Vec<u8>, Fail> {
+    let mut text = Vec::from_slice(alloc, b"fof(a,axiom,")?;
+    for _ in 0..count {
+        text.push(b'~')?;
+    }
+    text.extend_from_slice(b"p).")?;
+    Ok(text)
+}
+
+#[test]
+fn a_formula_opens_at_most_so_many_levels(rt: HostRuntime) -> Result<(), Fail> {
+    let alloc = rt.alloc();
+    assert!(rt; read(alloc, &negations(alloc, MOST_LEVELS)?)?.is_ok());
+    let deeper = negations(alloc, MOST_LEVELS + 1)?;
+    assert!(rt; matches!(read(alloc, &deeper)?, Err(told) if told == (8, 12 + MOST_LEVELS)));
     Ok(())
 }
