@@ -1,15 +1,12 @@
 #!/bin/sh
-# Tokens per second of the token machine on a made text of four million tokens, beside a plain pass over the same tokens.
-# Prints one run; it is no test.
+# Tokens per second of the token machine, by itself and with the value that it builds, on made texts of up to four million tokens,
+# beside a plain pass over the same tokens. Prints one run; it is no test.
 set -e
 cd "$(dirname "$0")/../crates/benchmarks"
 rt run -- grammar time | awk '
-    / tokens, / { tokens = $1 }
-    /^plain pass/ { plain = $3; machine = $6 }
-    END {
-        if (plain < 1) plain = 1
-        printf "tokens: %d\n", tokens
-        printf "plain pass: %d us\n", plain
-        printf "machine: %d us, %.0f million tokens a second\n", machine, tokens / machine
-        printf "machine / plain pass: %.1f\n", machine / plain
+    / tokens, / { split($0, head, ": "); name = head[1]; split(head[2], words, " "); tokens = words[1] }
+    /^plain pass/ {
+        plain = $3; machine = $6; built = $9
+        printf "%s: %d tokens, plain pass %d us, recognize %d us (%.0f million a second), build %d us (%.0f million a second)\n",
+            name, tokens, plain, machine, tokens / machine, built, tokens / built
     }'

@@ -67,7 +67,7 @@ fn each_kind(rt: HostRuntime) -> Result<(), Fail> {
     Ok(())
 }
 
-// Each refusal at its place.
+// Each refusal at its offset.
 #[test]
 fn each_refusal(rt: HostRuntime) -> Result<(), Fail> {
     for (text, want) in [

@@ -5,6 +5,7 @@ use Rattle.std.specs.Str.{bytes_eq}
 use Rattle.std.proofs.Common.{ap, sym, ◌∙◌, inl, inr, subst, arith}
 use Rattle.std.proofs.lemmas.Slice.Eq.{bytes_eq-Decides}
 use Rattle.text_core.specs.Names.{Text}
+use Rattle.text_core.proofs.Laws.{among_front, among_back, value_same, and_both, number_same}
 use Rattle.text_core.specs.Lists.{IsAmong}
 use Rattle.text_core.specs.Numbered.{Symbol, Tables}
 use Rattle.logic_core.specs.declared.form.Atom.{Atom}
@@ -21,21 +22,13 @@ pub record TellsSame {X : Type 0} (same : X → X → Bool) : Type 0 where
 pub texts_told : TellsSame bytes_eq
 texts_told = record { told = λ x y. (bytes_eq-Decides x y).0; itself = λ x. (bytes_eq-Decides x x).1 refl }
 
-pub both : (a b : Bool) → (a && b) ≡ true → (a ≡ true) × (b ≡ true)
-both true true e = (refl, refl)
-both true false e = absurd (cc)
-both false b e = absurd (cc)
-
-pub number_told : (m n : ℕ) → (m == n) ≡ true → m ≡ n
-number_told m n e = grind arith
-
 number_itself : (n : ℕ) → (n == n) ≡ true
 number_itself n = grind arith
 
 pub symbols_told : TellsSame symbol_eq
 symbols_told = record {
-  told = λ x y e. let k = both (bytes_eq x.name y.name) (x.arity == y.arity) e in
-      let name = texts_told.told x.name y.name k.0 in let arity = number_told x.arity y.arity k.1 in
+  told = λ x y e. let k = and_both (bytes_eq x.name y.name) (x.arity == y.arity) e in
+      let name = texts_told.told x.name y.name k.0 in let arity = number_same x.arity y.arity k.1 in
       λ i. record { name = name i; arity = arity i };
   itself = λ x. rw (texts_told.itself x.name, number_itself x.arity);
 }
@@ -81,15 +74,6 @@ among_map f x [] here = absurd here
 among_map f x (y ∷ ys) (inl here) = inl (ap f here)
 among_map f x (y ∷ ys) (inr later) = inr (among_map f x ys later)
 
-among_front : {X : Type 0} (x : X) (xs ys : List X) → IsAmong x xs → IsAmong x (xs ++ ys)
-among_front x [] ys here = absurd here
-among_front x (z ∷ zs) ys (inl here) = inl here
-among_front x (z ∷ zs) ys (inr later) = inr (among_front x zs ys later)
-
-among_back : {X : Type 0} (x : X) (xs ys : List X) → IsAmong x ys → IsAmong x (xs ++ ys)
-among_back x [] ys here = here
-among_back x (z ∷ zs) ys here = inr (among_back x zs ys here)
-
 args_among : (c : Text) (g : GroundFormula) (problem : List GroundFormula) → IsAmong g problem → IsAmong c g.atom.args → IsAmong c (all_args problem)
 args_among c g [] here arg = absurd here
 args_among c g (h ∷ hs) (inl here) arg = among_front c h.atom.args (all_args hs) (subst (λ (f : GroundFormula). IsAmong c f.atom.args) (sym here) arg)
@@ -109,9 +93,6 @@ is_in problem g here = record {
 slot_same : (m n : ℕ) → Constant m ≡ Constant n → m ≡ n
 slot_same m n e = cc
 
-some_same : {X : Type 0} {x y : X} → Some x ≡ Some y → x ≡ y
-some_same e = cc
-
 -- constants with the same numbers have the same names
 args_same : (tables : Tables) (xs ys : List Text)
     → AllByRecursion (λ c. slice_get tables.constants (place_of bytes_eq c tables.constants) ≡ Some c) xs
@@ -124,7 +105,7 @@ args_same tables (x ∷ xs) (y ∷ ys) one two e =
     let heads : Constant (place_of bytes_eq x tables.constants) ≡ Constant (place_of bytes_eq y tables.constants) = cc in
     let tails : map (λ c. Constant (place_of bytes_eq c tables.constants)) xs ≡ map (λ c. Constant (place_of bytes_eq c tables.constants)) ys = cc in
     let numbers = slot_same (place_of bytes_eq x tables.constants) (place_of bytes_eq y tables.constants) heads in
-    let names : x ≡ y = some_same (sym one.0 ∙ ap (slice_get tables.constants) numbers ∙ two.0) in
+    let names : x ≡ y = value_same (sym one.0 ∙ ap (slice_get tables.constants) numbers ∙ two.0) in
     let rest = args_same tables xs ys one.1 two.1 tails in
     λ i. names i ∷ rest i
 
@@ -134,7 +115,7 @@ atom_same problem a b one two e =
     let tables = tables_of problem in
     let numbers : suc (place_of symbol_eq (symbol_of a) tables.symbols) ≡ suc (place_of symbol_eq (symbol_of b) tables.symbols) = ap (λ (q : Atom). q.symbol) e in
     let places : place_of symbol_eq (symbol_of a) tables.symbols ≡ place_of symbol_eq (symbol_of b) tables.symbols = omega arith in
-    let symbols : symbol_of a ≡ symbol_of b = some_same (sym one.symbol ∙ ap (slice_get tables.symbols) places ∙ two.symbol) in
+    let symbols : symbol_of a ≡ symbol_of b = value_same (sym one.symbol ∙ ap (slice_get tables.symbols) places ∙ two.symbol) in
     let predicate : a.predicate ≡ b.predicate = ap (λ (q : Symbol). q.name) symbols in
     let args : a.args ≡ b.args = args_same tables a.args b.args one.constants two.constants (ap (λ (q : Atom). q.args) e) in
     λ i. record { predicate = predicate i; args = args i }

@@ -1,6 +1,7 @@
 -- Whole proofs: what is read is the one value that the texts spell.
 use Rattle.std.specs.Prelude.{◌≡◌, List, [], Option, Some, Result, Ok, Err, IfOk, IfErr, MatchResult, refl}
 use Rattle.std.proofs.Common.{ap, sym, ◌∙◌}
+use Rattle.text_core.proofs.Laws.{value_same}
 use Rattle.text_core.specs.Names.{Text}
 use Rattle.proof_checker.specs.declared.ground.CitedFact.{CitedFact}
 use Rattle.proof_checker.specs.Ground.{IsProofOf}
@@ -8,11 +9,10 @@ use Rattle.proof_checker.specs.declared.words.NotRead.{NotRead}
 use Rattle.proof_checker.specs.declared.words.NotRead.TheVariants.{Lexical, NotBuilt, Memory}
 use Rattle.proof_checker.specs.Reading.{Gives, IsMisfit, proof_from}
 use Rattle.proof_checker.proofs.Complete.{proof_complete}
-use Rattle.proof_checker.proofs.Sound.{some_same}
 use Rattle.proof_checker.proofs.SoundSteps.{proof_sound}
 
 same_list : {X : Type 0} (xs ys : List X) → ◌≡◌ {A = Option (List X × List Text)} (Some (xs, [])) (Some (ys, [])) → xs ≡ ys
-same_list {X} xs ys e = ap (λ (q : List X × List Text). q.0) (some_same e)
+same_list {X} xs ys e = ap (λ (q : List X × List Text). q.0) (value_same e)
 
 proof_found : (texts : List Text) (steps : List CitedFact) → IsProofOf texts steps → proof_from 65535 texts ≡ Some (steps, [])
 proof_found texts steps is = ap (proof_from 65535) is.spelled ∙ proof_complete 65535 steps is.words is.few

@@ -134,7 +134,7 @@ fn read_proof(alloc: Global, texts: &[Bytes], most: usize) -> Result<List<CitedF
 }
 
 /// The texts of tokens, in order.
-#[tactic(auto, using(crate::proofs::Texts::take_next))]
+#[tactic(auto, using(text_core::proofs::Laws::take_next))]
 fn token_texts(alloc: Global, tokens: &Tokens<'_>) -> Result<List<Bytes>, Memory>
     ensures { IfOk result (λ texts. texts ≡ texts_of tokens.now.tokens) }
 {

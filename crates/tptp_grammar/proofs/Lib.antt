@@ -25,6 +25,7 @@ pub mod Annotated
 pub mod Watched
 pub mod Numbering
 pub mod Accepted
+pub mod ItemsOrRefusal
 pub mod Further
 pub mod Levels
 pub mod Dots

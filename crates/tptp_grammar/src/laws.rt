@@ -1,8 +1,8 @@
-ghost use Rattle.std.specs.Prelude.{◌≡◌, ◌↔◌, List};
+ghost use Rattle.std.specs.Prelude.{◌≡◌, ◌↔◌, ◌⊎◌, List};
 ghost use Rattle.text_core.specs.Names.{Text};
 ghost use Rattle.logic_core.specs.declared.problem.Item.{Item};
 ghost use Rattle.token_grammar.specs.Grammar.{IsText, BeginsText};
-ghost use Rattle.tptp_lexer.specs.Tokens.{Token, Lexed};
+ghost use Rattle.tptp_lexer.specs.Tokens.{Token, Lexed, AreTokens};
 ghost use Rattle.tptp_grammar.specs.declared.mark.Mark.{Mark};
 ghost use Rattle.tptp_grammar.specs.declared.refusal.SyntaxRefusal.{SyntaxRefusal as Fault};
 ghost use Rattle.tptp_grammar.specs.declared.symbol.Symbol.TheVariants.{Items};
@@ -36,4 +36,11 @@ pub fn refusals_are_one()
 pub fn never_items_and_refusal()
     ensures { (source : Text) (ts : List Token) (items : List Item) (fault : Fault) → AreItemsOf ts items
         → SyntaxFault (record { source = source; tokens = ts }) fault → ⊥ }
+{}
+
+/// The tokens of a source are a text of items, or they have a refusal.
+pub fn items_or_refusal()
+    ensures { (source : Text) (ts : List Token) → AreTokens source ts →
+        ((items : List Item) × AreItemsOf ts items) ⊎
+        ((fault : Fault) × SyntaxFault (record { source = source; tokens = ts }) fault) }
 {}

@@ -20,7 +20,9 @@ mod scopes;
 mod symbol;
 
 pub use items::read_items;
-pub use laws::{items_are_one, never_items_and_refusal, printed_agrees, refusals_are_one};
+pub use laws::{
+    items_are_one, items_or_refusal, never_items_and_refusal, printed_agrees, refusals_are_one,
+};
 pub use limit::Limit;
 pub use mark::Mark;
 pub use printing::Printing;

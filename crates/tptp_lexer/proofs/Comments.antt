@@ -1,4 +1,4 @@
--- Where the first `*/` stands, a step at a time.
+-- Where the first `*/` is, a step at a time.
 use Rattle.std.proofs.Common.{◌≡◌, ℕ, ◌+◌, ◌==◌, ◌&&◌, ◌<◌, ◌≤◌, true, false, [], ◌∷◌, length, drop, get_or, refl, sym, ap, arith, add_assoc, zero-add, Option, Some, None, option_map, length-drop}
 use Rattle.std.proofs.Math.Bool.{and-false}
 use Rattle.std.proofs.lemmas.List.{drop_more}
@@ -6,7 +6,7 @@ use Rattle.text_core.specs.Names.{Text}
 use Rattle.tptp_lexer.specs.Kinds.{begins_with}
 use Rattle.tptp_lexer.specs.Scanning.{block_end}
 
--- the first `*/` behind a place, counted from the front
+-- the offset of the first `*/` from an offset on
 abbrev pub told : Text → ℕ → Option ℕ
 told bytes at = option_map (λ n. at + n) (block_end (drop at bytes))
 

@@ -1,8 +1,9 @@
--- What stands at the front of bytes, by the definitions, is what the scanner's function answers.
+-- What is at the front of bytes, by the definitions, is what the scanner's function answers.
 use Rattle.std.proofs.Common.{◌≡◌, ℕ, ◌+◌, ◌⊎◌, inl, inr, Bool, true, false, not, cond, [], ◌∷◌, ◌++◌, length, refl, ap, sym, ◌∙◌, subst, arith, Some, None, append_assoc, length-append}
 use Rattle.std.specs.Prelude.{bytes_eq}
 use Rattle.std.specs.List.{prefix_len}
 use Rattle.text_core.specs.Names.{Text}
+use Rattle.text_core.proofs.Laws.{and_both, not_both}
 use Rattle.tptp_lexer.specs.declared.kind.Kind.{Kind}
 use Rattle.tptp_lexer.specs.declared.kind.Kind.TheVariants.{Quoted}
 use Rattle.tptp_lexer.specs.declared.piece.Piece.{Piece}
@@ -11,8 +12,7 @@ use Rattle.tptp_lexer.specs.declared.quote.QuoteEnd.TheVariants.{Closed, Stray, 
 use Rattle.tptp_lexer.specs.Kinds.{kind_of, is_quoted, is_quoted_word, inside}
 use Rattle.tptp_lexer.specs.Tokens.{is_blank, IsComment, IsLineComment, IsBlockComment, IsLongest, is_end_of_line}
 use Rattle.tptp_lexer.specs.Refused.{BeginsNothing, HasStray, IsOpenQuote, IsOpenComment, IsEmptyQuote, is_quote, begins_comment}
-use Rattle.tptp_lexer.specs.Scanning.{piece_at, piece_from, sign_from, slash_from, quoted_piece, distinct_piece, block_piece, quote_end, block_end, is_not_feed, further}
-use Rattle.tptp_lexer.proofs.Numbers.{and_left, and_right}
+use Rattle.tptp_lexer.specs.Scanning.{piece_at, piece_from, other_from, slash_from, quoted_piece, distinct_piece, block_piece, quote_end, block_end, is_not_feed, further}
 use Rattle.tptp_lexer.proofs.Heads.{empty_kind, blank_kind, percent_kind, slash_kind, single_kind}
 use Rattle.tptp_lexer.proofs.Runs.{stops, counted}
 use Rattle.tptp_lexer.proofs.Quotes.{at_quote, at_last}
@@ -28,19 +28,19 @@ unfolding piece_from
 blank_piece b bs h = rw h
 
 percent_piece : (bs : Text) → piece_at (37 ∷ bs) ≡ Gap (1 + prefix_len is_not_feed bs)
-unfolding piece_from sign_from
+unfolding piece_from other_from
 percent_piece bs = refl
 
 block_start : (bs : Text) → piece_at (47 ∷ 42 ∷ bs) ≡ block_piece (block_end bs)
-unfolding piece_from sign_from slash_from
+unfolding piece_from other_from slash_from
 block_start bs = refl
 
 single_piece : (bs : Text) → piece_at (39 ∷ bs) ≡ quoted_piece (quote_end 39 bs)
-unfolding piece_from sign_from
+unfolding piece_from other_from
 single_piece bs = refl
 
 double_piece : (bs : Text) → piece_at (34 ∷ bs) ≡ distinct_piece (quote_end 34 bs)
-unfolding piece_from sign_from
+unfolding piece_from other_from
 double_piece bs = refl
 
 line_stops : (rest : Text) → is_end_of_line rest ≡ true → stops is_not_feed rest ≡ true
@@ -110,10 +110,10 @@ module _ (kind : Kind) (text rest bytes : Text) (split : bytes ≡ text ++ rest)
       go : (cs : Text) × (text ≡ 39 ∷ cs) × (39 ∷ bs ≡ cs ++ rest) → ⊥
       go t =
           let w = word t.0 t.1 (is_quoted_word (39 ∷ t.0)) refl in
-          let ends = quoted_end 39 t.0 rest (λ x. absurd (omega arith)) (and_left (is_quoted 39 (39 ∷ t.0)) (not (bytes_eq (inside (39 ∷ t.0)) [])) w) in
+          let ends = quoted_end 39 t.0 rest (λ x. absurd (omega arith)) (and_both (is_quoted 39 (39 ∷ t.0)) (not (bytes_eq (inside (39 ∷ t.0)) [])) w).0 in
           let now : Closed (length (inside (39 ∷ t.0))) ≡ Closed 0 = sym ends.0 ∙ ap (quote_end 39) (sym t.2) ∙ at_quote 39 39 bs refl in
           let none : length (inside (39 ∷ t.0)) ≡ 0 = cc in
-          empty (inside (39 ∷ t.0)) none (and_right (is_quoted 39 (39 ∷ t.0)) (not (bytes_eq (inside (39 ∷ t.0)) [])) w)
+          empty (inside (39 ∷ t.0)) none (and_both (is_quoted 39 (39 ∷ t.0)) (not (bytes_eq (inside (39 ∷ t.0)) [])) w).1
 
 -- behind a body the bytes end as the rest does
 stray_ends : (bytes : Text) (n : ℕ) (h : HasStray bytes n) → quote_end h.0 (h.1 ++ h.2) ≡ Stray (length h.1)
@@ -178,19 +178,16 @@ open_comment_piece bytes h = ap piece_at h.1 ∙ block_start h.0 ∙ ap block_pi
 pub empty_piece : (bytes : Text) → IsEmptyQuote bytes → piece_at bytes ≡ EmptyQuote
 empty_piece bytes h = ap piece_at h.1 ∙ single_piece (39 ∷ h.0) ∙ ap quoted_piece (at_quote 39 39 h.0 refl)
 
-differ : (t : Bool) → t ≡ true → t ≡ false → ⊥
-differ t h f = absurd (cc)
-
 -- a byte that begins nothing begins no piece
 module _ (b : ℕ) (bs : Text) (nothing : BeginsNothing (b ∷ bs)) where
   not_quoted : (q : ℕ) (more : Text) → b ∷ bs ≡ q ∷ more → is_quote q ≡ true → ⊥
-  not_quoted q more e h = let same : b ≡ q = cc in differ (is_quote b) (ap is_quote same ∙ h) nothing.2
+  not_quoted q more e h = let same : b ≡ q = cc in not_both (is_quote b) (ap is_quote same ∙ h) nothing.2
 
   not_comment : (more : Text) → b ∷ bs ≡ more → begins_comment more ≡ true → ⊥
-  not_comment more e h = differ (begins_comment (b ∷ bs)) (ap begins_comment e ∙ h) nothing.1
+  not_comment more e h = not_both (begins_comment (b ∷ bs)) (ap begins_comment e ∙ h) nothing.1
 
   not_gap : (t r : Text) → b ∷ bs ≡ t ++ r → ((c : ℕ) × (t ≡ c ∷ []) × (is_blank c ≡ true)) ⊎ IsComment t r → ⊥
-  not_gap t r s (inl x) = let whole : b ∷ bs ≡ x.0 ∷ r = s ∙ ap (λ (xs : Text). xs ++ r) x.1 in let same : b ≡ x.0 = cc in differ (is_blank b) (ap is_blank same ∙ x.2) nothing.0
+  not_gap t r s (inl x) = let whole : b ∷ bs ≡ x.0 ∷ r = s ∙ ap (λ (xs : Text). xs ++ r) x.1 in let same : b ≡ x.0 = cc in not_both (is_blank b) (ap is_blank same ∙ x.2) nothing.0
   not_gap t r s (inr (inl x)) = not_comment (37 ∷ x.0 ++ r) (s ∙ ap (λ (xs : Text). xs ++ r) x.1) refl
   not_gap t r s (inr (inr x)) = not_comment (47 ∷ 42 ∷ (x.0 ++ 42 ∷ 47 ∷ []) ++ r) (s ∙ ap (λ (xs : Text). xs ++ r) x.1) refl
 

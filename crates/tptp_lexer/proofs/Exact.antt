@@ -1,4 +1,4 @@
--- The tokens and the first refused place exclude each other, and there is one of each at most.
+-- The tokens and the first refused offset exclude each other, and there is one of each at most.
 use Rattle.std.proofs.Common.{◌≡◌, ◌⊎◌, inl, inr, List, length, refl, arith, Some, None}
 use Rattle.text_core.specs.Names.{Text}
 use Rattle.tptp_lexer.specs.declared.refusal.LexRefusal.{LexRefusal}

@@ -1,4 +1,4 @@
--- At one place stands one longest token.
+-- At one front is one longest token.
 use Rattle.std.proofs.Common.{◌≡◌, ◌⊎◌, inl, inr, [], ◌∷◌, ◌++◌, refl, ap, sym, ◌∙◌, append-nil}
 use Rattle.text_core.specs.Names.{Text}
 use Rattle.tptp_lexer.specs.declared.kind.Kind.{Kind}

@@ -2,24 +2,25 @@
 use Rattle.std.proofs.Common.{◌≡◌, ◌≢◌, ℕ, ◌+◌, ◌-◌, ◌==◌, ◌<◌, ◌≤◌, ◌⊎◌, inl, inr, Bool, true, false, not, cond, ◌&&◌, ◌||◌, List, [], ◌∷◌, ◌++◌, length, drop, get_or, refl, ap, sym, ◌∙◌, subst, arith, Some, length-drop, length-append, append_assoc, take}
 use Rattle.std.specs.Prelude.{bytes_eq, nat_lt, nat_eq, IsTrue}
 use Rattle.std.specs.List.{list_all, list_any}
-use Rattle.std.proofs.lemmas.Bool.{eqb-true, eq-eqb}
+use Rattle.std.proofs.lemmas.Bool.{eqb-true, eq-eqb, cond_both}
 use borrow.Author.Tests.{ltb-true, lt-ltb}
 use Rattle.std.proofs.lemmas.Bool.Decides.{nat_tests}
 use Rattle.std.proofs.lemmas.List.{drop_more}
 use Rattle.std.proofs.lemmas.Slice.Eq.{bytes_eq-Decides}
 use Rattle.text_core.specs.Names.{Text, IsPrintable, IsNameText}
+use Rattle.text_core.proofs.Laws.{and_both, or_neither, name_printable}
 use Rattle.tptp_lexer.specs.declared.kind.Kind.{Kind}
 use Rattle.tptp_lexer.specs.declared.kind.Kind.TheVariants.{Quoted}
 use Rattle.tptp_lexer.specs.Kinds.{kind_of, kind_among, kinds, is_lower, is_upper, is_digit, is_word, is_word_from, is_natural, is_integer, is_quoted, is_quoted_word, is_body, is_escapable, is_printable, inside}
-use Rattle.tptp_lexer.specs.Tokens.{unescaped, is_name}
+use Rattle.tptp_lexer.specs.Tokens.{unescaped}
+use Rattle.tptp_lexer.specs.Columns.{is_name}
 use Rattle.tptp_lexer.specs.Scanning.{shown_at}
-use Rattle.tptp_lexer.proofs.Numbers.{by_test, and_left, and_right}
 use Rattle.tptp_lexer.proofs.Bodies.{Plain, plain, first_of_body}
 use Rattle.tptp_lexer.proofs.Quoted.{quoted_shape}
 
 pub word_printable : (bs : Text) → list_all is_word bs ≡ true → IsPrintable bs
 word_printable [] h = tt
-word_printable (b ∷ bs) h = let w = and_left (is_word b) (list_all is_word bs) h in (low b w, high b w, word_printable bs (and_right (is_word b) (list_all is_word bs) h))
+word_printable (b ∷ bs) h = let w = (and_both (is_word b) (list_all is_word bs) h).0 in (low b w, high b w, word_printable bs (and_both (is_word b) (list_all is_word bs) h).1)
   where
     low : (b : ℕ) → is_word b ≡ true → 32 ≤ b
     low b h = grind (arith, nat_tests)
@@ -29,7 +30,7 @@ word_printable (b ∷ bs) h = let w = and_left (is_word b) (list_all is_word bs)
 
 digits_printable : (bs : Text) → list_all is_digit bs ≡ true → IsPrintable bs
 digits_printable [] h = tt
-digits_printable (b ∷ bs) h = let w = and_left (is_digit b) (list_all is_digit bs) h in (low b w, high b w, digits_printable bs (and_right (is_digit b) (list_all is_digit bs) h))
+digits_printable (b ∷ bs) h = let w = (and_both (is_digit b) (list_all is_digit bs) h).0 in (low b w, high b w, digits_printable bs (and_both (is_digit b) (list_all is_digit bs) h).1)
   where
     low : (b : ℕ) → is_digit b ≡ true → 32 ≤ b
     low b h = grind (arith, nat_tests)
@@ -42,10 +43,10 @@ printable_from b bs l h r = (l, h, r)
 
 lower_name : (text : Text) → is_word_from is_lower text ≡ true → IsNameText text
 lower_name [] h = absurd (cc)
-lower_name (b ∷ bs) h = printable_from b bs (low b w) (high b w) (word_printable bs (and_right (is_lower b) (list_all is_word bs) h))
+lower_name (b ∷ bs) h = printable_from b bs (low b w) (high b w) (word_printable bs (and_both (is_lower b) (list_all is_word bs) h).1)
   where
     w : is_lower b ≡ true
-    w = and_left (is_lower b) (list_all is_word bs) h
+    w = (and_both (is_lower b) (list_all is_word bs) h).0
 
     low : (b : ℕ) → is_lower b ≡ true → 32 ≤ b
     low b h = grind (arith, nat_tests)
@@ -55,10 +56,10 @@ lower_name (b ∷ bs) h = printable_from b bs (low b w) (high b w) (word_printab
 
 upper_name : (text : Text) → is_word_from is_upper text ≡ true → IsNameText text
 upper_name [] h = absurd (cc)
-upper_name (b ∷ bs) h = printable_from b bs (low b w) (high b w) (word_printable bs (and_right (is_upper b) (list_all is_word bs) h))
+upper_name (b ∷ bs) h = printable_from b bs (low b w) (high b w) (word_printable bs (and_both (is_upper b) (list_all is_word bs) h).1)
   where
     w : is_upper b ≡ true
-    w = and_left (is_upper b) (list_all is_word bs) h
+    w = (and_both (is_upper b) (list_all is_word bs) h).0
 
     low : (b : ℕ) → is_upper b ≡ true → 32 ≤ b
     low b h = grind (arith, nat_tests)
@@ -78,19 +79,15 @@ natural_name (b ∷ bs) h = go (b == 48) refl h
 
     go : (t : Bool) → (b == 48) ≡ t → cond t (bytes_eq bs []) (is_digit b && list_all is_digit bs) ≡ true → IsNameText (b ∷ bs)
     go true e h = let zero = eqb-true b 48 e in printable_from b bs (omega arith) (omega arith) (subst IsPrintable (sym ((bytes_eq-Decides bs []).0 h)) tt)
-    go false e h = let d = and_left (is_digit b) (list_all is_digit bs) h in printable_from b bs (low b d) (high b d) (digits_printable bs (and_right (is_digit b) (list_all is_digit bs) h))
-
-printable_of_name : (text : Text) → IsNameText text → IsPrintable text
-printable_of_name [] h = absurd h
-printable_of_name (b ∷ bs) h = h
+    go false e h = let d = (and_both (is_digit b) (list_all is_digit bs) h).0 in printable_from b bs (low b d) (high b d) (digits_printable bs (and_both (is_digit b) (list_all is_digit bs) h).1)
 
 integer_name : (text : Text) → is_integer text ≡ true → IsNameText text
 integer_name [] h = absurd (cc)
 integer_name (b ∷ bs) h = go (b == 43) refl (b == 45) refl h
   where
     go : (s : Bool) → (b == 43) ≡ s → (t : Bool) → (b == 45) ≡ t → cond (s || t) (is_natural bs) (is_natural (b ∷ bs)) ≡ true → IsNameText (b ∷ bs)
-    go true e t f h = let p = eqb-true b 43 e in printable_from b bs (omega arith) (omega arith) (printable_of_name bs (natural_name bs h))
-    go false e true f h = let p = eqb-true b 45 f in printable_from b bs (omega arith) (omega arith) (printable_of_name bs (natural_name bs h))
+    go true e t f h = let p = eqb-true b 43 e in printable_from b bs (omega arith) (omega arith) (name_printable bs (natural_name bs h))
+    go false e true f h = let p = eqb-true b 45 f in printable_from b bs (omega arith) (omega arith) (name_printable bs (natural_name bs h))
     go false e false f h = natural_name (b ∷ bs) h
 
 -- what is between the quotes of a quoted word
@@ -101,9 +98,9 @@ pub record QuotedText (text : Text) : Type 0 where
 
 quoted_text : (text : Text) → is_quoted_word text ≡ true → QuotedText text
 quoted_text text h = record {
-  shape = (quoted_shape 39 text (and_left (is_quoted 39 text) (not (bytes_eq (inside text) [])) h)).0;
-  body = (quoted_shape 39 text (and_left (is_quoted 39 text) (not (bytes_eq (inside text) [])) h)).1;
-  some = λ e. filled (inside text) (and_right (is_quoted 39 text) (not (bytes_eq (inside text) [])) h) e;
+  shape = (quoted_shape 39 text (and_both (is_quoted 39 text) (not (bytes_eq (inside text) [])) h).0).0;
+  body = (quoted_shape 39 text (and_both (is_quoted 39 text) (not (bytes_eq (inside text) [])) h).0).1;
+  some = λ e. filled (inside text) (and_both (is_quoted 39 text) (not (bytes_eq (inside text) [])) h).1 e;
 }
   where
     filled : (xs : Text) → not (bytes_eq xs []) ≡ true → xs ≡ [] → ⊥
@@ -152,15 +149,15 @@ alone true t h g = absurd (cc)
 alone false t h g = refl
 
 pub shown_step : (body : Text) (at : ℕ) → at < length body → unescaped (drop at body) ≡ get_or body (shown_at body at) 0 ∷ unescaped (drop (shown_at body at + 1) body)
-shown_step body at below = ap unescaped front ∙ by_test (λ k. unescaped (get_or body at 0 ∷ drop (at + 1) body) ≡ get_or body k 0 ∷ unescaped (drop (k + 1) body)) (get_or body at 0 == 92 && nat_lt (at + 1) (length body)) (at + 1) at escape own
+shown_step body at below = ap unescaped front ∙ cond_both (get_or body at 0 == 92 && nat_lt (at + 1) (length body)) (at + 1) at (λ k. unescaped (get_or body at 0 ∷ drop (at + 1) body) ≡ get_or body k 0 ∷ unescaped (drop (k + 1) body)) escape own
   where
     front : drop at body ≡ get_or body at 0 ∷ drop (at + 1) body
     front = drop_more body at 0 below
 
     escape : (get_or body at 0 == 92 && nat_lt (at + 1) (length body)) ≡ true → unescaped (get_or body at 0 ∷ drop (at + 1) body) ≡ get_or body (at + 1) 0 ∷ unescaped (drop (at + 1 + 1) body)
     escape e =
-        let more : at + 1 < length body = ltb-true (at + 1) (length body) (and_right (get_or body at 0 == 92) (nat_lt (at + 1) (length body)) e) in
-        rw (drop_more body (at + 1) 0 more, and_left (get_or body at 0 == 92) (nat_lt (at + 1) (length body)) e) refl
+        let more : at + 1 < length body = ltb-true (at + 1) (length body) (and_both (get_or body at 0 == 92) (nat_lt (at + 1) (length body)) e).1 in
+        rw (drop_more body (at + 1) 0 more, (and_both (get_or body at 0 == 92) (nat_lt (at + 1) (length body)) e).0) refl
 
     own : (get_or body at 0 == 92 && nat_lt (at + 1) (length body)) ≡ false → unescaped (get_or body at 0 ∷ drop (at + 1) body) ≡ get_or body at 0 ∷ unescaped (drop (at + 1) body)
     own e = own_first (get_or body at 0) (drop (at + 1) body) (λ more. alone (get_or body at 0 == 92) (nat_lt (at + 1) (length body)) e (lt-ltb (at + 1) (length body) (omega (arith, length-drop (at + 1) body))))
@@ -213,13 +210,9 @@ body_name body n h = some_name (unescaped body) (filled body n) (body_printable 
 -- without a backslash each byte stands for itself
 pub no_escape : (body : Text) → list_any (λ b. nat_eq b 92) body ≡ false → unescaped body ≡ body
 no_escape [] h = refl
-no_escape (b ∷ bs) h = own_first b bs (λ more. (or_false (b == 92) (list_any (λ c. nat_eq c 92) bs) h).0) ∙ ap (λ (xs : Text). b ∷ xs) (no_escape bs (or_false (b == 92) (list_any (λ c. nat_eq c 92) bs) h).1)
-  where
-    or_false : (s t : Bool) → (s || t) ≡ false → (s ≡ false) × (t ≡ false)
-    or_false true t h = absurd (cc)
-    or_false false t h = (refl, h)
+no_escape (b ∷ bs) h = own_first b bs (λ more. (or_neither (b == 92) (list_any (λ c. nat_eq c 92) bs) h).0) ∙ ap (λ (xs : Text). b ∷ xs) (no_escape bs (or_neither (b == 92) (list_any (λ c. nat_eq c 92) bs) h).1)
 
--- the part of a quoted word that stands between its quotes
+-- the part of a quoted word between its quotes
 pub record Quotation (text : Text) : Type 0 where
   pub long : 2 ≤ length text
   pub inner : take (length text - 1 - 1) (drop 1 text) ≡ inside text

@@ -1,8 +1,9 @@
--- Tokens stand in order, each a part of its source.
+-- Tokens are in order, each a part of its source.
 use Rattle.std.proofs.Common.{◌≡◌, ℕ, ◌+◌, ◌-◌, ◌≤◌, List, [], ◌∷◌, ◌++◌, length, take, drop, refl, ap, sym, ◌∙◌, arith}
 use Rattle.std.proofs.lemmas.List.{take_at, drop_at, drop-drop}
 use Rattle.text_core.specs.Names.{Text}
-use Rattle.tptp_lexer.specs.Tokens.{Token, Reads, stop, blank, comment, token, IsEnd, AreTokens, AreInOrder}
+use Rattle.tptp_lexer.specs.Tokens.{Token, Reads, stop, blank, comment, token, IsEnd, AreTokens}
+use Rattle.tptp_lexer.specs.Order.{AreInOrder}
 
 -- what is left behind a front
 behind : (source : Text) (at : ℕ) (bytes text rest : Text) → bytes ≡ drop at source → bytes ≡ text ++ rest → rest ≡ drop (at + length text) source

@@ -7,7 +7,7 @@ use Rattle.tptp_lexer.specs.declared.quote.QuoteEnd.{QuoteEnd}
 use Rattle.tptp_lexer.specs.declared.quote.QuoteEnd.TheVariants.{Closed, Stray, Open}
 use Rattle.tptp_lexer.specs.Kinds.{is_printable, is_escapable}
 use Rattle.tptp_lexer.specs.Scanning.{further, quote_end}
-use Rattle.tptp_lexer.proofs.Numbers.{other}
+use Rattle.tptp_lexer.proofs.Apart.{number_other}
 
 pub further_zero : (e : QuoteEnd) → further 0 e ≡ e
 further_zero (Closed n) = ap Closed (zero-add n)
@@ -24,23 +24,23 @@ at_quote q b [] e = rw (eq-eqb b q e)
 at_quote q b (c ∷ cs) e = rw (eq-eqb b q e)
 
 pub at_plain : (q b : ℕ) (bs : Text) → b ≢ q → b ≢ 92 → is_printable b ≡ true → quote_end q (b ∷ bs) ≡ further 1 (quote_end q bs)
-at_plain q b [] n e p = rw (other b q n, p)
-at_plain q b (c ∷ cs) n e p = rw (other b q n, other b 92 e, p)
+at_plain q b [] n e p = rw (number_other b q n, p)
+at_plain q b (c ∷ cs) n e p = rw (number_other b q n, number_other b 92 e, p)
 
 pub at_unprintable : (q b : ℕ) (bs : Text) → b ≢ q → b ≢ 92 → is_printable b ≡ false → quote_end q (b ∷ bs) ≡ Stray 0
-at_unprintable q b [] n e p = rw (other b q n, p)
-at_unprintable q b (c ∷ cs) n e p = rw (other b q n, other b 92 e, p)
+at_unprintable q b [] n e p = rw (number_other b q n, p)
+at_unprintable q b (c ∷ cs) n e p = rw (number_other b q n, number_other b 92 e, p)
 
 pub at_escape : (q b c : ℕ) (cs : Text) → b ≢ q → b ≡ 92 → is_escapable q c ≡ true → quote_end q (b ∷ c ∷ cs) ≡ further 2 (quote_end q cs)
-at_escape q b c cs n e p = rw (other b q n, eq-eqb b 92 e, p)
+at_escape q b c cs n e p = rw (number_other b q n, eq-eqb b 92 e, p)
 
 pub at_wrong : (q b c : ℕ) (cs : Text) → b ≢ q → b ≡ 92 → is_escapable q c ≡ false → quote_end q (b ∷ c ∷ cs) ≡ Stray 0
-at_wrong q b c cs n e p = rw (other b q n, eq-eqb b 92 e, p)
+at_wrong q b c cs n e p = rw (number_other b q n, eq-eqb b 92 e, p)
 
 pub at_last : (q b : ℕ) → b ≢ q → b ≡ 92 → quote_end q (b ∷ []) ≡ Open
-at_last q b n e = rw (other b q n, ap is_printable e)
+at_last q b n e = rw (number_other b q n, ap is_printable e)
 
--- the end of the bytes, told at a place among them
+-- the end of the bytes, told at an offset among them
 abbrev pub told : ℕ → Text → ℕ → QuoteEnd
 told q bytes at = further at (quote_end q (drop at bytes))
 

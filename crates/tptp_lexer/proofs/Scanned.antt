@@ -1,4 +1,4 @@
--- What the scanner has read of a source: some spans, up to a place.
+-- What the scanner has read of a source: some spans, up to an offset.
 use Rattle.std.proofs.Common.{◌≡◌, ℕ, ◌+◌, ◌-◌, ◌<◌, ◌≤◌, List, [], ◌∷◌, ◌++◌, map, length, take, drop, ap, sym, ◌∙◌, subst, arith, Option, Some, None, append_assoc, length-drop, zero, suc}
 use Rattle.std.specs.Prelude.{All, get_or}
 use Rattle.std.proofs.lemmas.List.{append-nil, map-append, drop-drop, take_rest}

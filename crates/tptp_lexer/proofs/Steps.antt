@@ -28,7 +28,7 @@ module _ (o : Option LexRefusal) (at : ℕ) (bytes : Text) (ts : List Token) whe
   found_step : (kind : Kind) (n : ℕ) (f : FoundFront kind n bytes) → Reads (EndsBy o) (at + n) f.rest ts → Reads (EndsBy o) at bytes (record { kind = kind; start = at; text = f.text } ∷ ts)
   found_step kind n f r = token kind f.text f.rest f.split f.longest (subst (λ k. Reads (EndsBy o) (at + k) f.rest ts) f.count r)
 
--- a token and a gap have a byte or more, and stand among the bytes; a refused byte is one of them
+-- a token and a gap have a byte or more, and are among the bytes; a refused byte is one of them
 abbrev pub Within : Piece → ℕ → Type 0
 Within (piece.Gap n) len = (0 < n) × (n ≤ len)
 Within (piece.Found k n) len = (0 < n) × (n ≤ len)
@@ -80,7 +80,7 @@ means_within piece.EmptyQuote bytes m = tt
 pub piece_within : (bytes : Text) → Within (piece_at bytes) (length bytes)
 piece_within bytes = means_within (piece_at bytes) bytes (piece_means bytes)
 
--- a reading of what is left of the bytes from a place on, as the scanner's answer cuts it
+-- a reading of what is left of the bytes from an offset on, as the scanner's answer cuts it
 abbrev pub Left : Option LexRefusal → ℕ → Text → List Token → ℕ → Type 0
 Left o at bytes ts n = Reads (EndsBy o) (at + n) (drop n bytes) ts
 

@@ -4,21 +4,23 @@
 mod byte;
 mod comment;
 mod cursor;
+mod integer;
 mod kind;
-mod laws;
+mod law;
 mod lexer;
-mod mark;
 mod name;
 mod piece;
 mod quote;
 mod refusal;
+mod sign;
 mod token;
 mod token_list;
 
 pub use cursor::Cursor;
+pub use integer::is_integer;
 pub use kind::Kind;
-pub use laws::{
-    never_tokens_and_refusal, one_first_refused_place, one_list_of_tokens, tokens_in_order,
+pub use law::{
+    never_tokens_and_refusal, one_first_refusal, one_list_of_tokens, tokens_in_order,
     tokens_or_refusal,
 };
 pub use lexer::tokens;

@@ -15,7 +15,7 @@ use Rattle.tptp_grammar.specs.Spells.{SpellsVariables, SpellsFormula, alone, con
 use Rattle.tptp_printer.specs.Canonical.{term_text, arguments_text, word_text, op_text, variables_text, in_unit, formula_text, chain_text}
 use Rattle.tptp_printer.specs.Named.{TermIsNamed, IsNamed, EachIsNamed}
 use Rattle.tptp_printer.proofs.Pieces.{Any, NoWord, Gives, Both, IsOne, nothing, seen, before, followed}
-use Rattle.tptp_printer.proofs.Marks.{open_parenthesis, close_parenthesis, blank_after, tilde, exclamation, question, equals, differs, ampersand, bar, connective}
+use Rattle.tptp_printer.proofs.Signs.{open_parenthesis, close_parenthesis, blank_after, tilde, exclamation, question, equals, differs, ampersand, bar, connective}
 use Rattle.tptp_printer.proofs.Words.{dollar_word, word}
 use Rattle.tptp_printer.proofs.Listed.{term, arguments, arguments_follow, variables}
 use Rattle.tptp_printer.proofs.Shut.{members_of, as_built}

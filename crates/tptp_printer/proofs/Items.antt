@@ -17,7 +17,7 @@ use Rattle.tptp_grammar.specs.Texts.{ItemIsClosed, AreItemsOf}
 use Rattle.tptp_printer.specs.Canonical.{name_text, selection_text, item_text, items_text, problem_text}
 use Rattle.tptp_printer.specs.Named.{SelectionIsNamed, ItemIsNamed}
 use Rattle.tptp_printer.proofs.Pieces.{Any, NoWord, Gives, Both, IsOne, IsToken, nothing, seen, followed}
-use Rattle.tptp_printer.proofs.Marks.{open_parenthesis, close_parenthesis, open_bracket, close_bracket, comma, dot, gap_after}
+use Rattle.tptp_printer.proofs.Signs.{open_parenthesis, close_parenthesis, open_bracket, close_bracket, comma, dot, gap_after}
 use Rattle.tptp_printer.proofs.Words.{lower_word, naming, quoted}
 use Rattle.tptp_printer.proofs.Listed.{listed, between}
 use Rattle.tptp_printer.proofs.Formulas.{whole}

@@ -13,7 +13,7 @@ use Rattle.tptp_grammar.specs.Spells.{SpellsVariable, SpellsTerm, none, more, Sp
 use Rattle.tptp_printer.specs.Canonical.{term_text, joined_texts, arguments_text, variables_text}
 use Rattle.tptp_printer.specs.Named.{TermIsNamed}
 use Rattle.tptp_printer.proofs.Pieces.{Any, NoWord, Gives, Both, IsOne, nothing, seen, before, followed}
-use Rattle.tptp_printer.proofs.Marks.{open_parenthesis, close_parenthesis, open_bracket, close_bracket, comma, colon}
+use Rattle.tptp_printer.proofs.Signs.{open_parenthesis, close_parenthesis, open_bracket, close_bracket, comma, colon}
 use Rattle.tptp_printer.proofs.Words.{word, variable}
 
 -- a value, a comma and further values
@@ -62,7 +62,7 @@ arguments scope (t ∷ ts) n b = seen
     (λ us s. let l = s.2 in between kind.OpenParenthesis kind.CloseParenthesis SpellsTerm (t ∷ ts) l.0 l.1 s.1 us l.2 l.3 s.3 (s.4 ∙ ap (λ (vs : List Token). vs ++ s.1) l.4))
     (before (λ rest may. tt) (followed (followed open_parenthesis (listed term_text SpellsTerm t ts (each_term scope (t ∷ ts) n b)) (λ rest may. tt)) close_parenthesis (λ rest may. refl)))
 
--- what stands behind a word does not go on with it
+-- what follows a word does not go on with it
 pub arguments_follow : (ts : List Term) (rest : Text) → NoWord rest → NoWord (arguments_text ts ++ rest)
 arguments_follow [] rest may = may
 arguments_follow (t ∷ ts) rest may = refl

@@ -78,7 +78,7 @@ number_kind b d cs = go (b == 48) refl
     go true e = ap (λ c. kind_of (c ∷ cs)) (eqb-true b 48 e) ∙ zero_kind cs
     go false e = digit_kind b cs d e ∙ ap (λ t. cond (t && list_all is_digit cs) (Some Integer) None) (sym d)
 
--- what a number makes a token of, with what may stand before it
+-- what a number makes a token of, with what may be before it
 module _ (head lead : Text) (test : (cs : Text) → kind_of (head ++ cs) ≡ cond (is_natural (lead ++ cs)) (Some Integer) None) where
   number_longest : (bs rest : Text) → is_natural (lead ++ bs) ≡ true → NoWord rest → IsLongest Integer (head ++ bs) rest
   number_longest bs rest h may = record {

@@ -84,7 +84,7 @@ abbrev mutual
   chain_text separator (more_of-Formula g (more_of-Formula h rest)) =
       in_unit g (formula_text g) ++ separator ++ chain_text separator (more_of-Formula h rest)
 
--- what stands behind an inclusion's file
+-- what follows an inclusion's file
 abbrev pub selection_text : Option (List Text) → Text
 selection_text None = []
 selection_text (Some names) = codes ",[" ++ joined_texts (codes ",") (map name_text names) ++ codes "]"

@@ -53,7 +53,7 @@ fn put_variables(names: &[Name], out: &mut Bytes) -> Result<(), Memory>
     out.extend_from_slice(b"] : ")
 }
 
-/// Appends a formula that stands inside another one.
+/// Appends a formula inside another one.
 #[cycle(formula)]
 fn put_unit(formula: &Formula, out: &mut Bytes) -> Result<(), Memory>
     ensures text { OnOk result (out.new ≡ out.old ++ in_unit formula.now (formula_text formula.now)) }

@@ -42,7 +42,7 @@ fn put_names(names: &[Name], out: &mut Bytes) -> Result<(), Memory>
     Ok(())
 }
 
-/// Appends what stands behind an inclusion's file.
+/// Appends what follows an inclusion's file.
 fn put_selection(only: &Option<List<Name>>, out: &mut Bytes) -> Result<(), Memory>
     ensures text { OnOk result (out.new ≡ out.old ++ selection_text only.now) }
     ensures named { OnOk result (SelectionIsNamed only.now) }

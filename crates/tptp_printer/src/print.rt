@@ -9,8 +9,8 @@ use crate::item::{put_fof, put_item};
 use logic_core::{Bytes, Item, Memory, Problem};
 use std::alloc::Global;
 
-/// The canonical text of an item that may stand in a problem's text, with a line feed at its end. `Memory` is want of memory. Source:
-/// the TPTP syntax, FOF.
+/// The canonical text of an item that may be in a problem's text, with a line feed at its end. `Memory` is want of
+/// memory. Source: the TPTP syntax, FOF.
 pub fn print_item(alloc: Global, item: &Item) -> Result<Bytes, Memory>
     requires { ItemMayStand item.now }
     ensures text { IfOk result (λ bytes. bytes ≡ item_text item.now) }
@@ -21,7 +21,8 @@ pub fn print_item(alloc: Global, item: &Item) -> Result<Bytes, Memory>
     Ok(bytes)
 }
 
-/// The canonical text of a problem: its formulas in order, each on a line. `Memory` is want of memory. Source: the TPTP syntax, FOF.
+/// The canonical text of a problem: its formulas in order, each on a line. `Memory` is want of memory. Source: the
+/// TPTP syntax, FOF.
 pub fn print_problem(alloc: Global, problem: &Problem) -> Result<Bytes, Memory>
     ensures text { IfOk result (λ bytes. bytes ≡ problem_text problem.now) }
     // The text has tokens, which are a text of the same formulas.
