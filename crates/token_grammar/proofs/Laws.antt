@@ -1,15 +1,24 @@
 -- What the laws of a grammar, of its watcher and of its builder are made of, in the crates above.
-use Rattle.std.proofs.Common.{◌≡◌, sym, subst, inl, inr, List, [], ◌∷◌}
-use Rattle.std.specs.Prelude.{IsTrue, Result}
+use Rattle.std.proofs.Common.{◌≡◌, ◌⊎◌, refl, sym, subst, inl, inr, List, [], ◌∷◌}
+use Rattle.std.specs.Prelude.{IsTrue, Result, Ok, Err}
 use Rattle.token_grammar.specs.Grammar.{Grammar}
 use Rattle.token_grammar.specs.Watch.{Watcher, Sees, IsDecided, watcher_of}
 use Rattle.token_grammar.specs.Making.{Choice, element, RowValues}
 use Rattle.token_grammar.specs.Productions.{Makers, made_at, making_by}
 use Rattle.token_grammar.specs.Building.{IsBuilding, RowLaws, after_row}
+pub use Rattle.token_grammar.proofs.Spelling.{joined, spelled_taken}
+pub use Rattle.token_grammar.proofs.Agreement.{answers_agree, one_taking_of_text}
+pub use Rattle.token_grammar.proofs.Answered.{tokens_answered}
+
+-- a result is a value or an error
+result_is : {X E : Type 0} (result : Result X E) → ((x : X) × result ≡ Ok x) ⊎ ((e : E) × result ≡ Err e)
+result_is (Ok x) = inl (x, refl)
+result_is (Err e) = inr (e, refl)
 
 -- a watcher that computes does one thing at each token
 pub computed_decided : {P T S F : Type 0} (look : S → P → T → Result S F) → IsDecided (watcher_of look)
 computed_decided look = record {
+  does = λ s p t. result_is (look s p t);
   one_state = λ s p t a b h k. cc;
   one_fault = λ s p t e f h k. cc;
   apart = λ s p t a f h k. cc;

@@ -6,6 +6,7 @@ pub mod Moving
 pub mod Acting
 pub mod Built
 pub mod Agreement
+pub mod Answered
 pub mod Translated
 pub mod OfValues
 pub mod OneValue

@@ -6,6 +6,7 @@ pub mod Computed
 pub mod Step
 pub mod Acting
 pub mod Answers
+pub mod Answered
 pub mod Factored
 pub mod Stacks
 pub mod Making

@@ -3,6 +3,7 @@ ghost use Rattle.token_grammar.specs.Grammar.{IsText, BeginsText};
 ghost use Rattle.token_grammar.specs.Taken.{Taken};
 ghost use Rattle.token_grammar.specs.SpelledAs.{SpelledAs};
 ghost use Rattle.token_grammar.specs.Answers.{IsAccepted, IsAnswer, AreOne};
+ghost use Rattle.token_grammar.specs.Answered.{HasAnswer};
 ghost use Rattle.token_grammar.specs.declared.refusal.Refusal.{Refusal};
 
 use crate::builder::Builder;
@@ -61,4 +62,9 @@ pub fn seen_is_told<W: Told>()
 pub fn factored_agrees<F: Factored>()
     ensures texts { (ts : List F.Token) → IsText F.printed F.printed_start ts ↔ IsText F.grammar F.start ts }
     ensures beginnings { (ts : List F.Token) → BeginsText F.printed F.printed_start ts ↔ BeginsText F.grammar F.start ts }
+{}
+
+/// Each list of tokens has an answer: it is a text in which the watcher finds no fault, or a token or the end is refused.
+pub fn tokens_have_answers<P: Part>()
+    ensures { (start : P) (before : P.Seen) (ts : List P.Token) → HasAnswer P.grammar P.watcher start before ts }
 {}

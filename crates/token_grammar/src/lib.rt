@@ -19,7 +19,7 @@ pub use builder::Builder;
 pub use factored::Factored;
 pub use law::{
     answers_agree, factored_agrees, fronts_begin, seen_is_told, takers_agree, texts_are_taken,
-    texts_have_one_value,
+    texts_have_one_value, tokens_have_answers,
 };
 pub use machine::{build, recognize};
 pub use nothing::Nothing;

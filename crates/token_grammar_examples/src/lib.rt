@@ -7,8 +7,6 @@ mod expression;
 mod mark;
 mod reader;
 mod symbol;
-#[cfg(test)]
-mod tests;
 mod watch;
 
 pub use builder::ExpressionBuilder;
