@@ -5,7 +5,10 @@ use Rattle.fact_store.specs.Facts.{Fact}
 
 -- the fact of an entry
 abbrev pub fact_in : List ℕ → Entry → Fact
-fact_in args entry = record { signed = entry.signed; args = take entry.count (drop entry.start args) }
+fact_in args entry = record {
+  signed = entry.signed;
+  args = take entry.count (drop entry.start args);
+}
 
 -- the facts of all entries
 abbrev pub facts_in : List ℕ → List Entry → List Fact

@@ -1,11 +1,12 @@
 ghost use Rattle.std.specs.Prelude.{◌≡◌, ◌+◌, ◌-◌, ◌<◌, ◌≤◌, ◌^◌, [], ◌∷◌, vec_len, vec_capacity, ◌++◌, length, take, slice_get, slice_index, Some, None, replicate, IfOk, OnOk, OnErr};
 ghost use Rattle.fact_store.specs.Chains.{latest};
 
-use text_core::Memory;
 use std::alloc::Global;
 use std::marker::Model;
+use text_core::Memory;
 
-/// Keys in order of addition, numbered from 0. Each number leads to the greatest smaller one with the same key.
+/// Keys in order of addition, numbered from 0. Each number leads to the greatest smaller one with
+/// the same key.
 #[derive(Drop)]
 pub(crate) struct Chains {
     keys: Vec<u32>,
@@ -20,10 +21,15 @@ impl Model for Chains {
 
     ghost Value = { Keyed };
 
-    ghost view = { λ c. record { keys = c.keys.items; width = length c.heads.items; room = c.room } };
+    ghost view = { λ c. record {
+      keys = c.keys.items;
+      width = length c.heads.items;
+      room = c.room;
+    } };
 
     ghost invariant = { λ c. (AreChained c.heads.items c.olds.items c.keys.items)
-        × (length c.keys.items ≤ c.room) × (c.room < 2 ^ 32) × (c.room ≤ vec_capacity c.keys) × (c.room ≤ vec_capacity c.olds) };
+        × (length c.keys.items ≤ c.room) × (c.room < 2 ^ 32)
+        × (c.room ≤ vec_capacity c.keys) × (c.room ≤ vec_capacity c.olds) };
 }
 
 impl Chains {
@@ -79,7 +85,9 @@ impl Chains {
 
     /// Takes the newest key away, if there is one.
     pub(crate) fn pop(&mut self)
-        ensures { self.new ≡ record self.old { keys = take (length self.old.keys - 1) self.old.keys } }
+        ensures { self.new ≡ record self.old {
+          keys = take (length self.old.keys - 1) self.old.keys;
+        } }
     {
         if let (Some(key), Some(older)) = (self.keys.pop(), self.olds.pop()) {
             self.heads[key as usize] = older;

@@ -5,8 +5,8 @@ ghost use Rattle.fact_store.specs.Stored.{AreInBuckets};
 
 use crate::chains::Chains;
 use crate::entry::{Entry, args_of, bucket, is_entry_of};
-use text_core::Memory;
 use std::alloc::Global;
+use text_core::Memory;
 
 /// Whether a fact stands among the entries, looked for in the chain of its bucket.
 pub(crate) fn stands_in(
@@ -29,8 +29,8 @@ pub(crate) fn stands_in(
     false
 }
 
-/// Makes room for so many facts, and as many buckets at least; where there are too few, their number doubles.
-/// `Memory` is want of memory, and the buckets are as before.
+/// Makes room for so many facts, and as many buckets at least; where there are too few, their
+/// number doubles. `Memory` is want of memory, and the buckets are as before.
 pub(crate) fn grow(
     alloc: Global,
     buckets: &mut Chains,
@@ -64,7 +64,8 @@ fn in_buckets(
     requires fits { length entries.now ≤ width }
     requires some { 0 < width }
     requires few { width < 2 ^ 32 }
-    ensures keys { IfOk result (λ buckets. buckets.keys ≡ map (bucket_of width) (facts_in args.now entries.now)) }
+    ensures keys { IfOk result (λ buckets. buckets.keys
+        ≡ map (bucket_of width) (facts_in args.now entries.now)) }
     ensures width { IfOk result (λ buckets. buckets.width ≡ width) }
     ensures room { IfOk result (λ buckets. width ≤ buckets.room) }
 {

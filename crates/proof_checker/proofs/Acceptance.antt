@@ -24,7 +24,7 @@ use Rattle.proof_checker.specs.declared.ground.GroundAtom.{GroundAtom}
 use Rattle.proof_checker.specs.declared.ground.GroundFormula.{GroundFormula}
 use Rattle.proof_checker.specs.declared.ground.CitedFact.{CitedFact}
 use Rattle.proof_checker.specs.Ground.{is_premise, axioms_of, goals_of, IsGroundProof}
-use Rattle.proof_checker.specs.Tasks.{tables_of, place_of, atom_of, form_of, goal_form, task_of}
+use Rattle.proof_checker.specs.Tasks.{tables_of, number_of, atom_of, form_of, goal_form, task_of}
 use Rattle.proof_checker.specs.Accepted.{StepsStand, IsAccepted, AcceptsWith, Refuses}
 use Rattle.proof_checker.specs.Checking.{atom_eq, first, cited_atom, shows, accepts}
 use Rattle.proof_checker.proofs.Numbered.{IsIn, atom_same, is_in, texts_told}
@@ -35,7 +35,7 @@ slots_stay elements numbers [] = refl
 slots_stay elements numbers (x ∷ xs) = ap (λ zs. Constant (numbers x) ∷ zs) (slots_stay elements numbers xs)
 
 ground_stays : (elements : List ℕ) (tables : Tables) (a : GroundAtom) → atom_at elements (atom_of tables a) ≡ atom_of tables a
-ground_stays elements tables a = let args = slots_stay elements (λ c. place_of bytes_eq c tables.constants) a.args in
+ground_stays elements tables a = let args = slots_stay elements (λ c. number_of bytes_eq c tables.constants) a.args in
     λ i. record { positive = true; symbol = (atom_of tables a).symbol; args = args i }
 
 -- the context after an axiom was cited

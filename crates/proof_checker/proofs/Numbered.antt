@@ -12,7 +12,7 @@ use Rattle.logic_core.specs.declared.form.Atom.{Atom}
 use Rattle.logic_core.specs.declared.form.Slot.TheVariants.{Constant}
 use Rattle.proof_checker.specs.declared.ground.GroundAtom.{GroundAtom}
 use Rattle.proof_checker.specs.declared.ground.GroundFormula.{GroundFormula}
-use Rattle.proof_checker.specs.Tasks.{symbol_eq, others, once, place_of, symbol_of, all_args, tables_of, atom_of}
+use Rattle.proof_checker.specs.Tasks.{symbol_eq, others, once, number_of, symbol_of, all_args, tables_of, atom_of}
 
 -- a test that tells whether two values are one
 pub record TellsSame {X : Type 0} (same : X → X → Bool) : Type 0 where
@@ -56,18 +56,18 @@ module _ {X : Type 0} (same : X → X → Bool) (tells : TellsSame same) where
   placed_by x y ys n false e go (inl here) = let yes : same x y ≡ true = ap (same x) here ∙ tells.itself x in absurd (cc)
   placed_by x y ys n false e go (inr later) = go later
 
-  pub placed : (x : X) (ys : List X) → IsAmong x ys → slice_get ys (place_of same x ys) ≡ Some x
+  pub placed : (x : X) (ys : List X) → IsAmong x ys → slice_get ys (number_of same x ys) ≡ Some x
   placed x [] here = absurd here
-  placed x (y ∷ ys) here = placed_by x y ys (place_of same x ys) (same x y) refl (placed x ys) here
+  placed x (y ∷ ys) here = placed_by x y ys (number_of same x ys) (same x y) refl (placed x ys) here
 
   -- a member is found at its number
-  pub numbered : (x : X) (xs : List X) → IsAmong x xs → slice_get (once same xs) (place_of same x (once same xs)) ≡ Some x
+  pub numbered : (x : X) (xs : List X) → IsAmong x xs → slice_get (once same xs) (number_of same x (once same xs)) ≡ Some x
   numbered x xs here = placed x (once same xs) (kept x xs here)
 
 -- the atom of a formula of the problem, by its names
 pub record IsIn (problem : List GroundFormula) (a : GroundAtom) : Type 0 where
-  pub symbol : slice_get (tables_of problem).symbols (place_of symbol_eq (symbol_of a) (tables_of problem).symbols) ≡ Some (symbol_of a)
-  pub constants : AllByRecursion (λ c. slice_get (tables_of problem).constants (place_of bytes_eq c (tables_of problem).constants) ≡ Some c) a.args
+  pub symbol : slice_get (tables_of problem).symbols (number_of symbol_eq (symbol_of a) (tables_of problem).symbols) ≡ Some (symbol_of a)
+  pub constants : AllByRecursion (λ c. slice_get (tables_of problem).constants (number_of bytes_eq c (tables_of problem).constants) ≡ Some c) a.args
 
 among_map : {X Y : Type 0} (f : X → Y) (x : X) (xs : List X) → IsAmong x xs → IsAmong (f x) (map f xs)
 among_map f x [] here = absurd here
@@ -86,7 +86,7 @@ every_arg (x ∷ xs) P go = (go x (inl refl), every_arg xs P (λ c here. go c (i
 pub is_in : (problem : List GroundFormula) (g : GroundFormula) → IsAmong g problem → IsIn problem g.atom
 is_in problem g here = record {
   symbol = numbered symbol_eq symbols_told (symbol_of g.atom) (map (λ (f : GroundFormula). symbol_of f.atom) problem) (among_map (λ (f : GroundFormula). symbol_of f.atom) g problem here);
-  constants = every_arg g.atom.args (λ c. slice_get (tables_of problem).constants (place_of bytes_eq c (tables_of problem).constants) ≡ Some c)
+  constants = every_arg g.atom.args (λ c. slice_get (tables_of problem).constants (number_of bytes_eq c (tables_of problem).constants) ≡ Some c)
       (λ c arg. numbered bytes_eq texts_told c (all_args problem) (args_among c g problem here arg));
 }
 
@@ -95,16 +95,16 @@ slot_same m n e = cc
 
 -- constants with the same numbers have the same names
 args_same : (tables : Tables) (xs ys : List Text)
-    → AllByRecursion (λ c. slice_get tables.constants (place_of bytes_eq c tables.constants) ≡ Some c) xs
-    → AllByRecursion (λ c. slice_get tables.constants (place_of bytes_eq c tables.constants) ≡ Some c) ys
-    → map (λ c. Constant (place_of bytes_eq c tables.constants)) xs ≡ map (λ c. Constant (place_of bytes_eq c tables.constants)) ys → xs ≡ ys
+    → AllByRecursion (λ c. slice_get tables.constants (number_of bytes_eq c tables.constants) ≡ Some c) xs
+    → AllByRecursion (λ c. slice_get tables.constants (number_of bytes_eq c tables.constants) ≡ Some c) ys
+    → map (λ c. Constant (number_of bytes_eq c tables.constants)) xs ≡ map (λ c. Constant (number_of bytes_eq c tables.constants)) ys → xs ≡ ys
 args_same tables [] [] one two e = refl
 args_same tables [] (y ∷ ys) one two e = absurd (cc)
 args_same tables (x ∷ xs) [] one two e = absurd (cc)
 args_same tables (x ∷ xs) (y ∷ ys) one two e =
-    let heads : Constant (place_of bytes_eq x tables.constants) ≡ Constant (place_of bytes_eq y tables.constants) = cc in
-    let tails : map (λ c. Constant (place_of bytes_eq c tables.constants)) xs ≡ map (λ c. Constant (place_of bytes_eq c tables.constants)) ys = cc in
-    let numbers = slot_same (place_of bytes_eq x tables.constants) (place_of bytes_eq y tables.constants) heads in
+    let heads : Constant (number_of bytes_eq x tables.constants) ≡ Constant (number_of bytes_eq y tables.constants) = cc in
+    let tails : map (λ c. Constant (number_of bytes_eq c tables.constants)) xs ≡ map (λ c. Constant (number_of bytes_eq c tables.constants)) ys = cc in
+    let numbers = slot_same (number_of bytes_eq x tables.constants) (number_of bytes_eq y tables.constants) heads in
     let names : x ≡ y = value_same (sym one.0 ∙ ap (slice_get tables.constants) numbers ∙ two.0) in
     let rest = args_same tables xs ys one.1 two.1 tails in
     λ i. names i ∷ rest i
@@ -113,8 +113,8 @@ args_same tables (x ∷ xs) (y ∷ ys) one two e =
 pub atom_same : (problem : List GroundFormula) (a b : GroundAtom) → IsIn problem a → IsIn problem b → atom_of (tables_of problem) a ≡ atom_of (tables_of problem) b → a ≡ b
 atom_same problem a b one two e =
     let tables = tables_of problem in
-    let numbers : suc (place_of symbol_eq (symbol_of a) tables.symbols) ≡ suc (place_of symbol_eq (symbol_of b) tables.symbols) = ap (λ (q : Atom). q.symbol) e in
-    let places : place_of symbol_eq (symbol_of a) tables.symbols ≡ place_of symbol_eq (symbol_of b) tables.symbols = omega arith in
+    let numbers : suc (number_of symbol_eq (symbol_of a) tables.symbols) ≡ suc (number_of symbol_eq (symbol_of b) tables.symbols) = ap (λ (q : Atom). q.symbol) e in
+    let places : number_of symbol_eq (symbol_of a) tables.symbols ≡ number_of symbol_eq (symbol_of b) tables.symbols = omega arith in
     let symbols : symbol_of a ≡ symbol_of b = value_same (sym one.symbol ∙ ap (slice_get tables.symbols) places ∙ two.symbol) in
     let predicate : a.predicate ≡ b.predicate = ap (λ (q : Symbol). q.name) symbols in
     let args : a.args ≡ b.args = args_same tables a.args b.args one.constants two.constants (ap (λ (q : Atom). q.args) e) in

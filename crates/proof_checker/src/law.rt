@@ -9,9 +9,10 @@ ghost use Rattle.proof_checker.specs.Accepted.{IsAccepted};
 
 use logic_core::World;
 
-/// What is accepted is true: where a proof is accepted, the problem's conjecture is true in each structure in which
-/// its axioms are true, whoever wrote the proof.
+/// What is accepted is true: where a proof is accepted, the problem's conjecture is true in each
+/// structure in which its axioms are true, whoever wrote the proof.
 pub fn accepted_follows<W: World>()
-    ensures { (problem : List Formula) (steps : List Step) (body : Tree) (k : List ℕ) → length (goals_of problem) ≡ 1 → IsAccepted problem steps body
+    ensures { (problem : List Formula) (steps : List Step) (body : Tree) (k : List ℕ)
+        → length (goals_of problem) ≡ 1 → IsAccepted problem steps body
         → Follows (structure (W.element k) (W.holds k) (W.place k)) (map fof_of problem) }
 {}

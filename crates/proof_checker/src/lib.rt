@@ -1,5 +1,5 @@
-//! Checks proofs of ground problems: problems whose formulas are atoms without variables, and proofs that cite
-//! their axioms one after another.
+//! Checks proofs of ground problems: problems whose formulas are atoms without variables, and
+//! proofs that cite their axioms one after another.
 #![tactic(auto)]
 
 mod check;

@@ -6,6 +6,9 @@ use Rattle.token_grammar.specs.Watch.{Watcher, Sees, IsDecided, watcher_of}
 use Rattle.token_grammar.specs.Making.{Choice, element, RowValues}
 use Rattle.token_grammar.specs.Productions.{Makers, made_at, making_by}
 use Rattle.token_grammar.specs.Building.{IsBuilding, RowLaws, after_row}
+pub use Rattle.token_grammar.proofs.Spelling.{joined, spelled_taken}
+pub use Rattle.token_grammar.proofs.Agreement.{answers_agree, one_taking_of_text}
+pub use Rattle.token_grammar.proofs.Answered.{tokens_answered}
 
 -- a result is a value or an error
 result_is : {X E : Type 0} (result : Result X E) → ((x : X) × result ≡ Ok x) ⊎ ((e : E) × result ≡ Err e)

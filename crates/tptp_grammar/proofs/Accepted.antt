@@ -7,8 +7,7 @@ use Rattle.text_core.specs.Names.{Text}
 use Rattle.logic_core.specs.declared.problem.Item.{Item}
 use Rattle.token_grammar.specs.Answers.{IsClean}
 use Rattle.token_grammar.specs.Watch.{Sees}
-use Rattle.token_grammar.proofs.Agreement.{one_taking_of_text}
-use Rattle.token_grammar.proofs.Spelling.{spelled_taken}
+use Rattle.token_grammar.proofs.Laws.{one_taking_of_text, spelled_taken}
 use Rattle.tptp_lexer.specs.Kinds.{kind_of}
 use Rattle.tptp_lexer.specs.Tokens.{Token, Reads, AreTokens, IsEnd, stop, blank, comment, token}
 use Rattle.text_core.specs.declared.limits.TheConstants.{MOST_LEVELS}

@@ -4,7 +4,7 @@ use Rattle.std.proofs.Common.{inl, inr, refl, sym, ◌∙◌, ap, subst}
 use Rattle.token_grammar.specs.Answers.{IsAccepted, AreOne}
 use Rattle.token_grammar.specs.declared.refusal.Refusal.{Refusal}
 use Rattle.token_grammar.specs.declared.refusal.Refusal.TheVariants as machine
-use Rattle.token_grammar.proofs.Agreement as agreement
+use Rattle.token_grammar.proofs.Laws as agreement
 use Rattle.token_grammar.proofs.Laws.{computed_decided}
 use Rattle.tptp_lexer.specs.Columns.{Lexed, starts_of}
 use Rattle.tptp_grammar.specs.declared.limit.Limit.{Limit}

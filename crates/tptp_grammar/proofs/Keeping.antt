@@ -5,7 +5,7 @@ use Rattle.std.proofs.lemmas.Bool.Decides.{nat_tests}
 use Rattle.token_grammar.specs.Grammar.{Grammar, Spelled}
 use Rattle.token_grammar.specs.Taken.{Taken}
 use Rattle.token_grammar.specs.Watch.{Sees}
-use Rattle.token_grammar.proofs.Spelling.{spelled_taken}
+use Rattle.token_grammar.proofs.Laws.{spelled_taken}
 use Rattle.tptp_lexer.specs.Tokens.{Token}
 use Rattle.text_core.specs.declared.limits.TheConstants.{MOST_LEVELS}
 use Rattle.tptp_grammar.specs.declared.limit.Limit.TheVariants.{TooDeep}

@@ -12,6 +12,7 @@ use Rattle.tptp_grammar.specs.Texts.{SyntaxFault}
 use Rattle.tptp_grammar.proofs.Accepted.{text_no_fault}
 use Rattle.tptp_grammar.proofs.Faults.{one_fault}
 use Rattle.tptp_grammar.proofs.ItemsRead.{one_text}
+pub use Rattle.tptp_grammar.proofs.ItemsOrRefusal.{items_or_refusal}
 
 -- two lists of items of the same tokens
 pub items_same : (ts : List Token) (a b : List Item) → AreItemsOf ts a → AreItemsOf ts b → a ≡ b

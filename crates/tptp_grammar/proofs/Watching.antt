@@ -8,7 +8,7 @@ use Rattle.text_core.proofs.Laws.{among_front, among_back}
 use Rattle.token_grammar.specs.Taken.{Taken}
 use Rattle.token_grammar.specs.Taken.Taken.{stop, token, part}
 use Rattle.token_grammar.specs.Watch.{Sees}
-use Rattle.token_grammar.proofs.Spelling.{joined as joined_taken}
+use Rattle.token_grammar.proofs.Laws.{joined as joined_taken}
 use Rattle.tptp_lexer.specs.declared.kind.Kind.{Kind}
 use Rattle.tptp_lexer.specs.Tokens.{Token}
 use Rattle.tptp_lexer.specs.Kinds.{kind_of}

@@ -19,8 +19,6 @@ mod printed_form;
 mod refusal;
 mod role;
 mod scopes;
-#[cfg(test)]
-mod tests;
 
 pub use item_part::ItemPart;
 pub use items::read_items;

@@ -16,6 +16,7 @@ pub record Plain (q b : ℕ) : Type 0 where
   pub unquoted : (b == q) ≡ false
   pub unescaped : (b == 92) ≡ false
 
+-- a byte that passes the test is plain
 pub plain : (q b : ℕ) → is_plain q b ≡ true → Plain q b
 plain q b h = record {
   printable = (and_both (is_printable b) (not (b == q)) (and_both (is_printable b && not (b == q)) (not (b == 92)) h).0).0;
@@ -23,6 +24,7 @@ plain q b h = record {
   unescaped = not_true (b == 92) (and_both (is_printable b && not (b == q)) (not (b == 92)) h).1;
 }
 
+-- a plain byte passes the test
 pub is_plain_from : (q b : ℕ) → Plain q b → is_plain q b ≡ true
 is_plain_from q b p = rw (p.printable, p.unquoted, p.unescaped)
 
@@ -31,6 +33,7 @@ pub body_plain : (q b : ℕ) (body : Text) → Plain q b → is_body q body ≡ 
 body_plain q b [] p h = is_plain_from q b p
 body_plain q b (c ∷ cs) p h = rw (p.printable, p.unquoted, p.unescaped, h)
 
+-- a body with one more escape
 pub body_escape : (q c : ℕ) (body : Text) → is_escapable q c ≡ true → is_body q body ≡ true → is_body q (92 ∷ c ∷ body) ≡ true
 body_escape q c body e h = rw (e, h)
 
@@ -58,22 +61,27 @@ EndMeans q bs (Closed n) = (body : Text) × (rest : Text) × (bs ≡ body ++ q �
 EndMeans q bs (Stray n) = (body : Text) × (rest : Text) × (bs ≡ body ++ rest) × (is_body q body ≡ true) × (is_stray q rest ≡ true) × (n ≡ length body)
 EndMeans q bs Open = (body : Text) × (rest : Text) × (bs ≡ body ++ rest) × (is_body q body ≡ true) × ((rest ≡ []) ⊎ (rest ≡ 92 ∷ []))
 
+-- a plain byte before bytes of whose end that is known
 means_plain : (q b : ℕ) (bs : Text) (e : QuoteEnd) → Plain q b → EndMeans q bs e → EndMeans q (b ∷ bs) (further 1 e)
 means_plain q b bs (Closed n) p m = (b ∷ m.0, m.1, ap (λ (xs : Text). b ∷ xs) m.2, body_plain q b m.0 p m.3, ap (λ k. 1 + k) m.4 ∙ omega arith)
 means_plain q b bs (Stray n) p m = (b ∷ m.0, m.1, ap (λ (xs : Text). b ∷ xs) m.2, body_plain q b m.0 p m.3, m.4, ap (λ k. 1 + k) m.5 ∙ omega arith)
 means_plain q b bs Open p m = (b ∷ m.0, m.1, ap (λ (xs : Text). b ∷ xs) m.2, body_plain q b m.0 p m.3, m.4)
 
+-- an escape before them
 means_escape : (q c : ℕ) (cs : Text) (e : QuoteEnd) → is_escapable q c ≡ true → EndMeans q cs e → EndMeans q (92 ∷ c ∷ cs) (further 2 e)
 means_escape q c cs (Closed n) p m = (92 ∷ c ∷ m.0, m.1, ap (λ (xs : Text). 92 ∷ c ∷ xs) m.2, body_escape q c m.0 p m.3, ap (λ k. 2 + k) m.4 ∙ omega arith)
 means_escape q c cs (Stray n) p m = (92 ∷ c ∷ m.0, m.1, ap (λ (xs : Text). 92 ∷ c ∷ xs) m.2, body_escape q c m.0 p m.3, m.4, ap (λ k. 2 + k) m.5 ∙ omega arith)
 means_escape q c cs Open p m = (92 ∷ c ∷ m.0, m.1, ap (λ (xs : Text). 92 ∷ c ∷ xs) m.2, body_escape q c m.0 p m.3, m.4)
 
+-- the quote at the front
 means_quote : (q b : ℕ) (bs : Text) → (b == q) ≡ true → EndMeans q (b ∷ bs) (Closed 0)
 means_quote q b bs e = ([], bs, ap (λ x. x ∷ bs) (eqb-true b q e), refl, refl)
 
+-- a byte at the front that is not printable
 means_unprintable : (q b : ℕ) (bs : Text) → is_printable b ≡ false → EndMeans q (b ∷ bs) (Stray 0)
 means_unprintable q b bs h = ([], b ∷ bs, refl, refl, rw h, refl)
 
+-- the end that is answered says so
 pub end_means : (q : ℕ) (bs : Text) → EndMeans q bs (quote_end q bs)
 end_means q [] = ([], [], refl, refl, inl refl)
 end_means q (b ∷ []) =
@@ -104,14 +112,17 @@ quote_cases q h = go (q == 39) refl h
     go true e h = inl (eqb-true q 39 e)
     go false e h = inr (eqb-true q 34 h)
 
+-- a quote is printable
 quote_printable : (q : ℕ) → (q ≡ 39) ⊎ (q ≡ 34) → is_printable q ≡ true
 quote_printable q (inl e) = ap is_printable e
 quote_printable q (inr e) = ap is_printable e
 
+-- a quote is no backslash
 pub quote_unescaped : (q : ℕ) → (q ≡ 39) ⊎ (q ≡ 34) → q ≢ 92
 quote_unescaped q (inl e) = λ s. absurd (omega arith)
 quote_unescaped q (inr e) = λ s. absurd (omega arith)
 
+-- the backslash of a wrong escape ends the bytes at once
 wrong_end : (q b : ℕ) (bs : Text) → q ≢ 92 → b ≡ 92 → is_wrong_escape q bs ≡ true → quote_end q (b ∷ bs) ≡ Stray 0
 wrong_end q b [] n e w = absurd (cc)
 wrong_end q b (c ∷ cs) n e w = at_wrong q b c cs (λ s. n (sym s ∙ e)) e (not_true (is_escapable q c) w)

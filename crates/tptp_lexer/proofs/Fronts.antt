@@ -28,6 +28,7 @@ pub record FoundFront (kind : Kind) (len : ℕ) (bytes : Text) : Type 0 where
   pub count : len ≡ length text
   pub longest : IsLongest kind text rest
 
+-- what a piece says of the bytes
 abbrev pub Means : Piece → Text → Type 0
 Means End bytes = bytes ≡ []
 Means (Gap len) bytes = GapFront len bytes

@@ -19,6 +19,7 @@ outcome_at at piece.OpenQuote = Some (Some (refusal.OpenQuote at))
 outcome_at at piece.OpenComment = Some (Some (refusal.OpenComment at))
 outcome_at at piece.EmptyQuote = Some (Some (refusal.EmptyQuote at))
 
+-- a reading that ends ends so
 pub ended : (o : Option LexRefusal) (at : ℕ) (bytes : Text) → EndsBy o at bytes → outcome_at at (piece_at bytes) ≡ Some o
 ended None at bytes h = ap (λ (bs : Text). outcome_at at (piece_at bs)) h
 ended (Some (refusal.BadByte offset)) at bytes (inl h) = ap (outcome_at at) (nothing_piece bytes h.0) ∙ ap (λ n. Some (Some (refusal.BadByte n))) (let e = h.1 in omega arith)

@@ -14,9 +14,11 @@ use Rattle.tptp_lexer.proofs.Signs.{sign_means}
 use Rattle.tptp_lexer.proofs.Words.{number_found, signed_means, dollar_means, slash_means, line_front}
 use Rattle.tptp_lexer.proofs.Quoted.{single_means, double_means}
 
+-- a blank is a gap
 blank_front : (b : ℕ) (bs : Text) → is_blank b ≡ true → GapFront 1 (b ∷ bs)
 blank_front b bs h = record { text = b ∷ []; rest = bs; split = refl; count = refl; gap = inl (b, refl, h) }
 
+-- what begins with a plus or a minus
 plus_minus_means : (b : ℕ) (bs : Text) → (b == 43 || b == 45) ≡ true → Means (signed_from bs) (b ∷ bs)
 plus_minus_means b bs = go (b == 43) refl
   where
@@ -24,6 +26,7 @@ plus_minus_means b bs = go (b == 43) refl
     go true e h = subst (λ x. Means (signed_from bs) (x ∷ bs)) (sym (eqb-true b 43 e)) (signed_means 43 plus_kind refl (λ cs. refl) refl bs)
     go false e h = subst (λ x. Means (signed_from bs) (x ∷ bs)) (sym (eqb-true b 45 h)) (signed_means 45 minus_kind refl (λ cs. refl) refl bs)
 
+-- what is at the front of any bytes
 pub piece_means : (bytes : Text) → Means (piece_at bytes) bytes
 unfolding piece_from other_from
 piece_means [] = refl

@@ -18,6 +18,7 @@ use Rattle.tptp_lexer.proofs.Bodies.{EndMeans, end_means, body_end}
 use Rattle.tptp_lexer.proofs.Quotes.{at_quote}
 use Rattle.tptp_lexer.proofs.Fronts.{FoundFront, Means}
 
+-- what is between the quotes
 pub inside_of : (q : ℕ) (body : Text) → inside (q ∷ body ++ q ∷ []) ≡ body
 inside_of q body = take_at body (q ∷ []) (length (q ∷ body ++ q ∷ []) - 2) (let l = length-append body (q ∷ []) in omega arith)
 
@@ -27,6 +28,7 @@ is_quoted_text q body h = and_true (bytes_eq (q ∷ body ++ q ∷ []) (q ∷ ins
     ((bytes_eq-Decides (q ∷ body ++ q ∷ []) (q ∷ inside (q ∷ body ++ q ∷ []) ++ q ∷ [])).1 (ap (λ (xs : Text). q ∷ xs ++ q ∷ []) (sym (inside_of q body))))
     (ap (is_body q) (inside_of q body) ∙ h)
 
+-- a quoted text is the quote, a body and the quote
 pub quoted_shape : (q : ℕ) (text : Text) → is_quoted q text ≡ true → (text ≡ q ∷ inside text ++ q ∷ []) × (is_body q (inside text) ≡ true)
 quoted_shape q text h = ((bytes_eq-Decides text (q ∷ inside text ++ q ∷ [])).0 (and_both (bytes_eq text (q ∷ inside text ++ q ∷ [])) (is_body q (inside text)) h).0, (and_both (bytes_eq text (q ∷ inside text ++ q ∷ [])) (is_body q (inside text)) h).1)
 
@@ -67,16 +69,20 @@ quoted_found kind q body rest n h token none = record {
   longest = body_longest kind q body rest n h token none;
 }
 
+-- what begins with a single quote and is not quoted is no token
 pub single_none : (cs : Text) → is_quoted 39 (39 ∷ cs) ≡ false → kind_of (39 ∷ cs) ≡ None
 single_none cs h = single_kind cs ∙ ap (λ t. cond (t && not (bytes_eq (inside (39 ∷ cs)) [])) (Some Quoted) None) h
 
+-- what begins with a double quote and is not quoted is no token
 pub double_none : (cs : Text) → is_quoted 34 (34 ∷ cs) ≡ false → kind_of (34 ∷ cs) ≡ None
 double_none cs h = double_kind cs ∙ ap (λ t. cond t (Some Distinct) None) h
 
+-- a body whose length is not 0 has some bytes
 some_length : (body : Text) (n : ℕ) → n ≡ length body → (n == 0) ≡ false → bytes_eq body [] ≡ false
 some_length [] n e h = absurd (eqb-false n 0 h e)
 some_length (b ∷ bs) n e h = refl
 
+-- some body in single quotes is a quoted word
 single_token : (body : Text) → is_body 39 body ≡ true → bytes_eq body [] ≡ false → kind_of (39 ∷ body ++ 39 ∷ []) ≡ Some Quoted
 single_token body h s = single_kind (body ++ 39 ∷ []) ∙ ap (λ t. cond (t && not (bytes_eq (inside (39 ∷ body ++ 39 ∷ [])) [])) (Some Quoted) None) (is_quoted_text 39 body h) ∙ ap (λ (xs : Text). cond (not (bytes_eq xs [])) (Some Quoted) None) (inside_of 39 body) ∙ ap (λ t. cond (not t) (Some Quoted) None) s
 
@@ -84,13 +90,16 @@ single_token body h s = single_kind (body ++ 39 ∷ []) ∙ ap (λ t. cond (t &&
 pub word_longest : (body rest : Text) → is_body 39 body ≡ true → bytes_eq body [] ≡ false → IsLongest Quoted (39 ∷ body ++ 39 ∷ []) rest
 word_longest body rest h some = body_longest Quoted 39 body rest (λ x. absurd (omega arith)) h (single_token body h some) single_none
 
+-- a body in double quotes is a distinct text
 double_token : (body : Text) → is_body 34 body ≡ true → kind_of (34 ∷ body ++ 34 ∷ []) ≡ Some Distinct
 double_token body h = double_kind (body ++ 34 ∷ []) ∙ ap (λ t. cond t (Some Distinct) None) (is_quoted_text 34 body h)
 
+-- a body whose length is 0 has none
 none_left : (body : Text) (n : ℕ) → n ≡ length body → (n == 0) ≡ true → body ≡ []
 none_left [] n e h = refl
 none_left (b ∷ bs) n e h = let z = eqb-true n 0 h in absurd (omega arith)
 
+-- what begins with a single quote, by its end
 single_front : (bs : Text) (e : QuoteEnd) → EndMeans 39 bs e → Means (quoted_piece e) (39 ∷ bs)
 single_front bs (Closed n) m = cond_both (n == 0) _ _ (λ p. Means p (39 ∷ bs))
     (λ z. let e = none_left m.0 n m.4 z in (m.1, ap (λ (xs : Text). 39 ∷ xs) (m.2 ∙ ap (λ (xs : Text). xs ++ 39 ∷ m.1) e)))
@@ -98,13 +107,16 @@ single_front bs (Closed n) m = cond_both (n == 0) _ _ (λ p. Means p (39 ∷ bs)
 single_front bs (Stray n) m = inr (39, m.0, m.1, ap (λ (xs : Text). 39 ∷ xs) m.2, refl, m.3, m.4, ap (λ k. 1 + k) m.5)
 single_front bs Open m = (39, m.0, m.1, ap (λ (xs : Text). 39 ∷ xs) m.2, refl, m.3, m.4)
 
+-- what begins with a single quote
 pub single_means : (bs : Text) → Means (quoted_piece (quote_end 39 bs)) (39 ∷ bs)
 single_means bs = single_front bs (quote_end 39 bs) (end_means 39 bs)
 
+-- what begins with a double quote, by its end
 double_front : (bs : Text) (e : QuoteEnd) → EndMeans 34 bs e → Means (distinct_piece e) (34 ∷ bs)
 double_front bs (Closed n) m = rw (m.2, m.4) (quoted_found Distinct 34 m.0 m.1 (λ x. absurd (omega arith)) m.3 (double_token m.0 m.3) double_none)
 double_front bs (Stray n) m = inr (34, m.0, m.1, ap (λ (xs : Text). 34 ∷ xs) m.2, refl, m.3, m.4, ap (λ k. 1 + k) m.5)
 double_front bs Open m = (34, m.0, m.1, ap (λ (xs : Text). 34 ∷ xs) m.2, refl, m.3, m.4)
 
+-- what begins with a double quote
 pub double_means : (bs : Text) → Means (distinct_piece (quote_end 34 bs)) (34 ∷ bs)
 double_means bs = double_front bs (quote_end 34 bs) (end_means 34 bs)

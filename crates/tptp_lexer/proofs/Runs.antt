@@ -20,6 +20,7 @@ module _ (p : ℕ → Bool) where
     pub count : prefix_len p bs ≡ length run
     pub stopped : stops rest ≡ true
 
+  -- any bytes are such a run and a rest
   pub run_of : (bs : Text) → Run bs
   run_of [] = record { run = []; rest = []; split = refl; all = refl; count = refl; stopped = refl }
   run_of (b ∷ bs) = go (p b) refl (run_of bs)
@@ -33,6 +34,7 @@ module _ (p : ℕ → Bool) where
   broken [] b more e = rw e
   broken (c ∷ cs) b more e = rw (broken cs b more e) (and-false (p c))
 
+  -- a rest that does not begin with one of the class begins with another byte
   pub stopped_at : (rest : Text) (b : ℕ) (more : Text) → rest ≡ b ∷ more → stops rest ≡ true → p b ≡ false
   stopped_at [] b more e s = absurd (cc)
   stopped_at (c ∷ cs) b more e s = let same : c ≡ b = cc in ap p (sym same) ∙ not_true (p c) s

@@ -12,6 +12,7 @@ use Rattle.tptp_lexer.specs.Kinds.{kind_of, begins_with}
 use Rattle.tptp_lexer.specs.Scanning.{sign_from, long_sign, less_from}
 use Rattle.tptp_lexer.proofs.Fronts.{FoundFront, Means, token_found, no_front, next_is, next_other}
 
+-- `<`, `~` and `>` that are not all there are no sign
 neither : (s t : Bool) → (s && t) ≡ false → cond (s && (t && true)) (Some Xor) None ≡ None
 neither true true h = absurd (cc)
 neither true false h = refl
@@ -33,6 +34,7 @@ less_none c cs n f (d ∷ ds) after e = let same : c ≡ d = cc in let more : cs
     go (x ∷ []) m g = rw m (neither (d == 126) (x == 62) g)
     go (x ∷ y ∷ ys) m g = simp (m, and-false)
 
+-- what begins with `<`
 pub less_means : (bs : Text) → Means (less_from bs) (60 ∷ bs)
 unfolding kind_of less_from
 less_means [] = inl ((refl, refl, refl, no_front 60 [] (λ cs after e. rw (nil_front cs after e) refl)), refl)
@@ -49,6 +51,7 @@ less_means (c ∷ cs) =
 abbrev pub NoLong : ℕ → Text → Type 0
 NoLong b bs = (b == 33) ≡ false → (b == 126) ≡ false → (b == 61) ≡ false → (b == 60) ≡ false → Means (BadByte 0) (b ∷ bs)
 
+-- what begins with a sign that may go on
 pub long_means : (b : ℕ) (bs : Text) → NoLong b bs → Means (long_sign b bs) (b ∷ bs)
 unfolding kind_of long_sign
 long_means b bs bad =
@@ -74,9 +77,11 @@ long_means b bs bad =
 single : (kind : Kind) (m b : ℕ) (bs : Text) → (b == m) ≡ true → kind_of (m ∷ []) ≡ Some kind → ((c : ℕ) (cs : Text) → kind_of (m ∷ c ∷ cs) ≡ None) → FoundFront kind 1 (b ∷ bs)
 single kind m b bs e token longest = rw (eqb-true b m e) (token_found kind (m ∷ []) bs token (λ c cs after s. longest c cs))
 
+-- what is left to say of a byte that begins no sign
 abbrev pub NoSign : ℕ → Text → Type 0
 NoSign b bs = (b == 40) ≡ false → (b == 41) ≡ false → (b == 91) ≡ false → (b == 93) ≡ false → (b == 44) ≡ false → (b == 46) ≡ false → (b == 58) ≡ false → (b == 63) ≡ false → (b == 38) ≡ false → (b == 124) ≡ false → NoLong b bs
 
+-- what begins with a sign
 pub sign_means : (b : ℕ) (bs : Text) → NoSign b bs → Means (sign_from b bs) (b ∷ bs)
 unfolding kind_of sign_from
 sign_means b bs bad =

@@ -12,6 +12,7 @@ use Rattle.tptp_lexer.specs.First.{first_of}
 use Rattle.tptp_lexer.specs.Tokens.{Token, Reads, AreTokens, IsEnd, stop, blank, comment, token, named}
 use Rattle.tptp_lexer.specs.Columns.{Lexed, ends_of, end_of, kinds_of, texts_of, names_of}
 
+-- what the span with a number gives
 picked : {X : Type 0} (f : Token → X) (source : Text) (spans : List Span) (at : ℕ) (d : Span) → at < length spans → slice_get (map f (map (token_of source) spans)) at ≡ Some (f (token_of source (get_or spans at d)))
 picked f source [] at d h = absurd (omega arith)
 picked f source (s ∷ ss) zero d h = refl
@@ -40,6 +41,7 @@ kind_at left from bytes _ (suc at) text (token {ts = ts} kind t rest s l r) e = 
 pub kind_seen : (source : Text) (spans : List Span) (v : Lexed) (at : ℕ) (text : Text) → record { source = source; tokens = map (token_of source) spans } ≡ v → AreTokens source (map (token_of source) spans) → slice_get (texts_of v.tokens) at ≡ Some text → slice_get (kinds_of v.tokens) at ≡ kind_of text
 kind_seen source spans v at text e r h = kind_at IsEnd 0 source v.tokens at text (subst (AreTokens source) (ap (λ (w : Lexed). w.tokens) e) r) h
 
+-- where the token with a number ends
 pub end_seen : (source : Text) (spans items : List Span) (v : Lexed) (at : ℕ) (d : Span) → record { source = source; tokens = map (token_of source) spans } ≡ v → items ≡ spans → at < length v.tokens → All (IsWithin source) spans → slice_get (ends_of v.tokens) at ≡ Some (get_or items at d).end
 end_seen source spans items v at d e i h w =
     seen_at end_of source spans items v at d e i h ∙ ap Some (end_is source (get_or items at d) (subst (All (IsWithin source)) (sym i) w at d (let l = ap length (ap (λ (w : Lexed). w.tokens) e) in let m = length-map spans (token_of source) in let n = ap length i in omega arith)))

@@ -42,6 +42,7 @@ stops_digits : (rest : Text) → stops is_word rest ≡ true → stops is_digit 
 stops_digits [] stopped = refl
 stops_digits (c ∷ cs) stopped = rw (third (is_lower c) (is_upper c) (is_digit c) (c == 95) (not_true (is_word c) stopped))
 
+-- bytes with one more behind them are some
 some_more : (bs : Text) (c : ℕ) (cs : Text) → bytes_eq (bs ++ c ∷ cs) [] ≡ false
 some_more [] c cs = refl
 some_more (b ∷ bs) c cs = refl
@@ -55,6 +56,7 @@ number_ends (b ∷ bs) rest c more after stopped e h = go (b == 48)
     go true = some_more bs c more
     go false = ap (λ t. is_digit b && t) (broken is_digit bs c more (stopped_at is_digit rest c (more ++ after) e stopped)) ∙ and-false (is_digit b)
 
+-- a natural number begins with a digit
 number_begins : (b : ℕ) (bs : Text) → is_natural (b ∷ bs) ≡ true → is_digit b ≡ true
 number_begins b bs h = go (b == 48) refl h
   where
@@ -62,6 +64,7 @@ number_begins b bs h = go (b == 48) refl h
     go true e h = ap is_digit (eqb-true b 48 e)
     go false e h = (and_both (is_digit b) (list_all is_digit bs) h).0
 
+-- what begins with a digit
 number_kind : (b : ℕ) → is_digit b ≡ true → (cs : Text) → kind_of (b ∷ cs) ≡ cond (is_natural (b ∷ cs)) (Some Integer) None
 number_kind b d cs = go (b == 48) refl
   where
@@ -71,6 +74,7 @@ number_kind b d cs = go (b == 48) refl
 
 -- what a number makes a token of, with what may be before it
 module _ (head lead : Text) (test : (cs : Text) → kind_of (head ++ cs) ≡ cond (is_natural (lead ++ cs)) (Some Integer) None) where
+  -- a natural number is the longest token in front of a rest that does not go on with digits
   number_longest : (bs rest : Text) → is_natural (lead ++ bs) ≡ true → stops is_digit rest ≡ true → IsLongest Integer (head ++ bs) rest
   number_longest bs rest h may = record {
     token = test bs ∙ rw h;

@@ -1,4 +1,4 @@
--- What contracts see of a source: its tokens, and of each its kind, its two offsets, its text and its name.
+-- What contracts see of a source: its tokens, and their kinds, offsets, texts and names in order.
 use Rattle.std.specs.Prelude.{ℕ, ◌+◌, Bool, true, false, List, length, map}
 use Rattle.text_core.specs.Names.{Text}
 use Rattle.tptp_lexer.specs.declared.kind.Kind.{Kind}

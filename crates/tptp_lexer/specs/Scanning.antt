@@ -20,11 +20,15 @@ further n (Closed m) = Closed (n + m)
 further n (Stray m) = Stray (n + m)
 further n Open = Open
 
--- how the bytes behind a quote q end: by the quote or a stray byte behind so many bytes, or with the text
+-- how the bytes behind a quote q end: by the quote or a stray byte at an offset, or with the text
 abbrev pub quote_end : ℕ → Text → QuoteEnd
 quote_end q [] = Open
 quote_end q (b ∷ []) = if b == q then Closed 0 else if is_printable b then Open else Stray 0
-quote_end q (b ∷ c ∷ cs) = if b == q then Closed 0 else if b == 92 then (if is_escapable q c then further 2 (quote_end q cs) else Stray 0) else if is_printable b then further 1 (quote_end q (c ∷ cs)) else Stray 0
+quote_end q (b ∷ c ∷ cs) =
+    if b == q then Closed 0
+    else if b == 92 then (if is_escapable q c then further 2 (quote_end q cs) else Stray 0)
+    else if is_printable b then further 1 (quote_end q (c ∷ cs))
+    else Stray 0
 
 -- the quote or the stray byte is among so many bytes
 abbrev pub EndsWithin : QuoteEnd → ℕ → Type 0
@@ -35,22 +39,26 @@ EndsWithin Open len = Unit {0}
 -- the bytes before the first `*/`
 abbrev pub block_end : Text → Option ℕ
 block_end [] = None
-block_end (b ∷ bs) = if b == 42 && begins_with 47 bs then Some 0 else option_map (λ n. 1 + n) (block_end bs)
+block_end (b ∷ bs) =
+    if b == 42 && begins_with 47 bs then Some 0 else option_map (λ n. 1 + n) (block_end bs)
 
 -- the length of a number of which this is the first digit
 abbrev pub natural_len : ℕ → Text → ℕ
 natural_len b bs = if b == 48 then 1 else 1 + prefix_len is_digit bs
 
+-- behind a single quote, by the end of the bytes
 abbrev pub quoted_piece : QuoteEnd → Piece
 quoted_piece (Closed n) = if n == 0 then EmptyQuote else Found Quoted (n + 2)
 quoted_piece (Stray n) = BadByte (1 + n)
 quoted_piece Open = OpenQuote
 
+-- behind a double quote, by the end of the bytes
 abbrev pub distinct_piece : QuoteEnd → Piece
 distinct_piece (Closed n) = Found Distinct (n + 2)
 distinct_piece (Stray n) = BadByte (1 + n)
 distinct_piece Open = OpenQuote
 
+-- behind `/*`, by the offset of the first `*/`
 abbrev pub block_piece : Option ℕ → Piece
 block_piece (Some n) = Gap (n + 4)
 block_piece None = OpenComment
@@ -82,7 +90,10 @@ less_from (b ∷ bs) =
 unfoldable pub long_sign : ℕ → Text → Piece
 long_sign b bs =
     if b == 33 then (if begins_with 61 bs then Found NotEqual 2 else Found Exclamation 1)
-    else if b == 126 then (if begins_with 124 bs then Found Nor 2 else if begins_with 38 bs then Found Nand 2 else Found Tilde 1)
+    else if b == 126 then
+    (if begins_with 124 bs then Found Nor 2
+    else if begins_with 38 bs then Found Nand 2
+    else Found Tilde 1)
     else if b == 61 then (if begins_with 62 bs then Found Implies 2 else Found Equal 1)
     else if b == 60 then less_from bs
     else BadByte 0
@@ -113,6 +124,7 @@ other_from b bs =
     else if b == 43 || b == 45 then signed_from bs
     else sign_from b bs
 
+-- what begins with a byte
 unfoldable pub piece_from : ℕ → Text → Piece
 piece_from b bs =
     if is_blank b then Gap 1

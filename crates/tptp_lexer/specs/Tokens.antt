@@ -35,7 +35,7 @@ abbrev pub IsLineComment : Text → Text → Type 0
 IsLineComment text rest =
     (body : Text) × (text ≡ 37 ∷ body) × (is_in_line body ≡ true) × (is_end_of_line rest ≡ true)
 
--- `/*` and what follows up to the first `*/` wholly behind it: `/*`, bytes in which none begins, and `*/`
+-- `/*`, bytes in which no `*/` begins, and `*/`, which is the first one wholly behind the `/*`
 abbrev pub IsBlockComment : Text → Type 0
 IsBlockComment text =
     (body : Text) × (text ≡ 47 ∷ 42 ∷ body ++ 42 ∷ 47 ∷ []) × (is_unclosed (body ++ 42 ∷ []) ≡ true)
@@ -47,19 +47,20 @@ IsComment text rest = IsLineComment text rest ⊎ IsBlockComment text
 -- the text is a token of this kind in front of the rest, and with more of the rest it would be none
 pub record IsLongest (kind : Kind) (text rest : Text) : Type 0 where
   pub token : kind_of text ≡ Some kind
-  pub longest : (b : ℕ) (more after : Text) → rest ≡ b ∷ more ++ after → kind_of (text ++ b ∷ more) ≡ None
+  pub longest : (b : ℕ) (more after : Text) → rest ≡ b ∷ more ++ after
+      → kind_of (text ++ b ∷ more) ≡ None
 
--- From an offset on the bytes are blanks, comments and these tokens, up to what is left, of which `left` is true.
+-- From an offset on the bytes are blanks, comments and these tokens, up to what is left, of which
+-- `left` is true.
 pub data Reads (left : ℕ → Text → Type 0) : ℕ → Text → List Token → Type 0 where
   stop : {at : ℕ} {bytes : Text} → left at bytes → Reads left at bytes []
   blank : {at b : ℕ} {rest : Text} {ts : List Token} → is_blank b ≡ true
       → Reads left (at + 1) rest ts → Reads left at (b ∷ rest) ts
-  comment : {at : ℕ} {bytes : Text} {ts : List Token} (text rest : Text) → bytes ≡ text ++ rest
-      → IsComment text rest
-      → Reads left (at + length text) rest ts → Reads left at bytes ts
-  token : {at : ℕ} {bytes : Text} {ts : List Token} (kind : Kind) (text rest : Text) → bytes ≡ text ++ rest
-      → IsLongest kind text rest
-      → Reads left (at + length text) rest ts
+  comment : {at : ℕ} {bytes : Text} {ts : List Token} (text rest : Text)
+      → bytes ≡ text ++ rest → IsComment text rest → Reads left (at + length text) rest ts
+      → Reads left at bytes ts
+  token : {at : ℕ} {bytes : Text} {ts : List Token} (kind : Kind) (text rest : Text)
+      → bytes ≡ text ++ rest → IsLongest kind text rest → Reads left (at + length text) rest ts
       → Reads left at bytes (record { kind = kind; start = at; text = text } ∷ ts)
 
 -- nothing is left
@@ -76,7 +77,7 @@ unescaped [] = []
 unescaped (b ∷ []) = b ∷ []
 unescaped (b ∷ c ∷ cs) = if b == 92 then c ∷ unescaped cs else b ∷ unescaped (c ∷ cs)
 
--- what a text of a kind names: its bytes, or for a quoted word those between the quotes, without escapes
+-- what a text of a kind names: its bytes, or those between the quotes of a quoted word, unescaped
 abbrev pub named : Kind → Text → Text
 named Quoted text = unescaped (inside text)
 named _ text = text

@@ -14,8 +14,8 @@ fn is_natural(text: &[u8]) -> bool
     }
 }
 
-/// Whether a text is an integer, as a token of the kind `Integer` is: a natural number, with or without a plus or minus
-/// before it. Source: the TPTP syntax, integer.
+/// Whether a text is an integer, as a token of the kind `Integer` is: a natural number, with or
+/// without a plus or minus before it. Source: the TPTP syntax, integer.
 pub fn is_integer(text: &[u8]) -> bool
     ensures { result ≡ kinds.is_integer text.now }
 {

@@ -9,7 +9,8 @@ ghost use Rattle.tptp_lexer.specs.Refused.{LexFault};
 
 /// A text has one list of tokens at most.
 pub fn one_list_of_tokens()
-    ensures { (bytes : Text) (ts us : List Token) → AreTokens bytes ts → AreTokens bytes us → ts ≡ us }
+    ensures { (bytes : Text) (ts us : List Token)
+        → AreTokens bytes ts → AreTokens bytes us → ts ≡ us }
 {}
 
 /// A text has one first refused offset at most, which is refused for one reason.
@@ -19,12 +20,14 @@ pub fn one_first_refusal()
 
 /// A text that has tokens has no first refused offset.
 pub fn never_tokens_and_refusal()
-    ensures { (bytes : Text) (ts : List Token) (a : LexRefusal) → AreTokens bytes ts → LexFault bytes a → ⊥ }
+    ensures { (bytes : Text) (ts : List Token) (a : LexRefusal)
+        → AreTokens bytes ts → LexFault bytes a → ⊥ }
 {}
 
 /// Each text has tokens, or a first refused offset.
 pub fn tokens_or_refusal()
-    ensures { (bytes : Text) → ((ts : List Token) × AreTokens bytes ts) ⊎ ((a : LexRefusal) × LexFault bytes a) }
+    ensures { (bytes : Text)
+        → ((ts : List Token) × AreTokens bytes ts) ⊎ ((a : LexRefusal) × LexFault bytes a) }
 {}
 
 /// Tokens are in order and do not overlap, and the text of each is that part of its source.

@@ -11,9 +11,9 @@ use crate::token_list::{Span, Tokens};
 use std::alloc::Global;
 use text_core::List;
 
-/// The tokens of a source of fewer than 2 ^ 32 bytes, after the TPTP syntax: the longest token at each offset, with
-/// only blanks and comments between them. Where the source has none, the refusal tells the first refused offset, and
-/// `Memory` is want of memory.
+/// The tokens of a source of fewer than 2 ^ 32 bytes, after the TPTP syntax: the longest token at
+/// each offset, with only blanks and comments between them. Where the source has none, the refusal
+/// tells the first refused offset, and `Memory` is want of memory.
 pub fn tokens<'a>(alloc: Global, source: &'a [u8]) -> Result<Tokens<'a>, LexRefusal>
     requires { length source.now < 2 ^ 32 }
     ensures source { IfOk result (λ lexed. lexed.source ≡ source.now) }

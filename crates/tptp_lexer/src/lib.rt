@@ -1,4 +1,5 @@
-//! The tokens of a text: those of the TPTP's first-order form, which every text that Hogbygone reads is made of.
+//! The tokens of a text: those of the TPTP's first-order form, which every text that Hogbygone
+//! reads is made of.
 #![tactic(auto)]
 
 mod byte;
@@ -13,8 +14,6 @@ mod piece;
 mod quote;
 mod refusal;
 mod sign;
-#[cfg(test)]
-mod tests;
 mod token;
 mod token_list;
 

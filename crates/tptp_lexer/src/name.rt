@@ -8,8 +8,8 @@ use crate::kind::Kind;
 use std::alloc::Global;
 use text_core::{Bytes, Memory, Name};
 
-/// The name that a token of these bytes is, where it is a word, a quoted word or an integer. `Memory` is want of
-/// memory.
+/// The name that a token of these bytes is, where it is a word, a quoted word or an integer.
+/// `Memory` is want of memory.
 pub(crate) fn name_of(alloc: Global, kind: Kind, text: &[u8]) -> Result<Name, Memory>
     requires token { kind_of text.now ≡ Some kind }
     requires named { IsTrue (columns.is_name kind) }
@@ -49,7 +49,8 @@ fn unescaped(alloc: Global, body: &[u8]) -> Result<Bytes, Memory>
     Ok(bytes)
 }
 
-/// The offset of the byte that the byte at an offset stands for: that behind it for a backslash, else its own.
+/// The offset of the byte that the byte at an offset stands for: that behind it for a backslash,
+/// else its own.
 fn shown_at(body: &[u8], at: usize) -> usize
     requires { at < length body.now }
     ensures value { result ≡ shown_at body.now at }

@@ -17,7 +17,8 @@ pub(crate) enum Piece {
     Gap(usize),
     /// The longest token, of this kind and so many bytes.
     Found(Kind, usize),
-    /// A byte so many bytes further on that begins no token, blank or comment, or may not be in a quote.
+    /// A byte so many bytes further on that begins no token, blank or comment, or may not be in a
+    /// quote.
     BadByte(usize),
     /// A quote that is still open at the end.
     OpenQuote,

@@ -25,7 +25,8 @@ pub(crate) fn sign_from(byte: u8, rest: &[u8]) -> Piece
     }
 }
 
-/// The sign that begins with a byte and may go on with further ones, or that the byte begins nothing.
+/// The sign that begins with a byte and may go on with further ones, or that the byte begins
+/// nothing.
 #[tactic(auto, unfolding(crate::specs::Scanning::long_sign))]
 fn long_sign(byte: u8, rest: &[u8]) -> Piece
     ensures { result ≡ scanning.long_sign byte rest.now }

@@ -9,8 +9,8 @@ use std::alloc::Global;
 use std::marker::Model;
 use text_core::{Memory, Name};
 
-/// A token: its kind, the offset of its first byte in its source, counted from 0, and its bytes as they are there.
-/// Contracts see these three.
+/// A token: its kind, the offset of its first byte in its source, counted from 0, and its bytes as
+/// they are there. Contracts see these three.
 #[derive(Debug, Drop)]
 pub struct Token<'a> {
     kind: Kind,
@@ -61,8 +61,9 @@ impl<'a> Token<'a> {
         self.text
     }
 
-    /// The name that a word in lower or upper case, a quoted word or an integer is: its bytes, and those between
-    /// the quotes of a quoted word, where a backslash stands for the byte behind it. `Memory` is want of memory.
+    /// The name that a word in lower or upper case, a quoted word or an integer is: its bytes, and
+    /// those between the quotes of a quoted word, where a backslash stands for the byte behind it.
+    /// `Memory` is want of memory.
     pub fn name(&self, alloc: Global) -> Result<Name, Memory>
         requires { IsTrue (columns.is_name self.now.kind) }
         ensures { IfOk result (λ name. name ≡ names.name_of self.now) }

@@ -11,7 +11,8 @@ use std::alloc::Global;
 use std::marker::Model;
 use text_core::{List, Memory, Name};
 
-/// Where a token is in its source: from the offset `start` up to the offset `end`, which is behind it.
+/// Where a token is in its source: from the offset `start` up to the offset `end`, which is behind
+/// it.
 #[derive(Clone, Copy, Debug)]
 pub(crate) struct Span {
     pub kind: Kind,
@@ -19,7 +20,8 @@ pub(crate) struct Span {
     pub end: u32,
 }
 
-/// A source and its tokens in order. Contracts see the bytes of the source and the list of its tokens.
+/// A source and its tokens in order. Contracts see the bytes of the source and the list of its
+/// tokens.
 #[derive(Debug, Drop)]
 pub struct Tokens<'a> {
     source: &'a [u8],
@@ -65,7 +67,8 @@ impl<'a> Tokens<'a> {
         self.spans.as_slice()[number].kind
     }
 
-    /// The offset in the source of the first byte of the token with this number, which is below `len`.
+    /// The offset in the source of the first byte of the token with this number, which is below
+    /// `len`.
     pub fn start(&self, number: usize) -> u32
         requires { number < length self.now.tokens }
         ensures { slice_get (starts_of self.now.tokens) number ≡ Some result }
@@ -73,7 +76,8 @@ impl<'a> Tokens<'a> {
         self.spans.as_slice()[number].start
     }
 
-    /// The offset in the source behind the last byte of the token with this number, which is below `len`.
+    /// The offset in the source behind the last byte of the token with this number, which is below
+    /// `len`.
     pub fn end(&self, number: usize) -> u32
         requires { number < length self.now.tokens }
         ensures { slice_get (ends_of self.now.tokens) number ≡ Some result }
@@ -101,11 +105,12 @@ impl<'a> Tokens<'a> {
         Token::new(span.kind, span.start, text)
     }
 
-    /// The name that the token with this number is, a word in lower or upper case, a quoted word or an integer: its
-    /// bytes, and those between the quotes of a quoted word, where a backslash stands for the byte behind it. `Memory`
-    /// is want of memory.
+    /// The name that the token with this number is, a word in lower or upper case, a quoted word or
+    /// an integer: its bytes, and those between the quotes of a quoted word, where a backslash
+    /// stands for the byte behind it. `Memory` is want of memory.
     pub fn name(&self, alloc: Global, number: usize) -> Result<Name, Memory>
-        requires { IsSomeAnd (slice_get (kinds_of self.now.tokens) number) (λ kind. IsTrue (is_name kind)) }
+        requires { IsSomeAnd (slice_get (kinds_of self.now.tokens) number)
+            (λ kind. IsTrue (is_name kind)) }
         ensures { IfOk result (λ name. slice_get (names_of self.now.tokens) number ≡ Some name) }
     {
         name_of(alloc, self.kind(number), self.text(number))

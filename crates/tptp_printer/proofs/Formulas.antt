@@ -2,8 +2,8 @@
 use Rattle.std.proofs.Common.{◌≡◌, ℕ, ◌+◌, ◌<◌, ◌≤◌, List, [], ◌∷◌, ◌++◌, codes, refl, ap, sym, ◌∙◌, arith, append_assoc}
 use Rattle.std.proofs.lemmas.List.{append-nil}
 use Rattle.text_core.specs.Names.{Text}
-use Rattle.logic_core.specs.Nesting.{depth, greatest_depth, nesting}
-use Rattle.logic_core.specs.Problems.{TermIsBound, AreVariables, TwoOrMore, IsBoundIn, EachIsBoundIn}
+use Rattle.logic_core.specs.Allowed.{depth, greatest_depth, nesting}
+use Rattle.logic_core.specs.Allowed.{TermIsBound, AreVariables, TwoOrMore, IsBoundIn, EachIsBoundIn}
 use Rattle.logic_core.specs.declared.formula.Op.{Op}
 use Rattle.logic_core.specs.declared.formula.Term.{Term}
 use Rattle.logic_core.specs.declared.formula.Formula.{Formula, True, False, Pred, Equal, Not, And, Or, Binary, Not', And', Or', Binary', ForAll', Exists', Row_of-Formula, end_of-Formula, more_of-Formula}
@@ -27,11 +27,13 @@ split_by ts us vs ws zs t e f g = e ∙ ap (λ (xs : List Token). xs ++ vs) (f �
 -- a sign between terms
 
 module _ (level : ℕ) (scope : List Text) (t u : Term) (n : TermIsNamed t × TermIsNamed u) (b : TermIsBound scope t × TermIsBound scope u) where
+  -- an equation
   equation_piece : Gives NoWord (term_text t ++ codes " = " ++ term_text u) (SpellsUnitary level (Equal t u))
   equation_piece = seen
       (λ ts s. let l = s.2 in equation t u l.0 (l.3).0 s.1 l.2 (l.3).1 s.3 refl (split_by ts l.0 s.1 l.1 s.0 (l.3).0 s.4 l.4 (l.3).2))
       (followed (followed (term scope t n.0 b.0) equals (λ rest may. refl)) (term scope u n.1 b.1) (λ rest may. tt))
 
+  -- an inequality
   inequality_piece : (f : Formula) → f ≡ Not (Equal t u) → Gives NoWord (term_text t ++ codes " != " ++ term_text u) (SpellsUnitary level f)
   inequality_piece f is = seen
       (λ ts s. let l = s.2 in inequality t u l.0 (l.3).0 s.1 l.2 (l.3).1 s.3 is (split_by ts l.0 s.1 l.1 s.0 (l.3).0 s.4 l.4 (l.3).2))
@@ -39,21 +41,25 @@ module _ (level : ℕ) (scope : List Text) (t u : Term) (n : TermIsNamed t × Te
 
 -- the rest of a unit formula, from its parts
 
+-- an atom
 atom_piece : (level : ℕ) (scope : List Text) (p : Text) (ts : List Term) → IsNamed (Pred p ts) → IsBoundIn scope (Pred p ts) → Gives NoWord (word_text p ++ arguments_text ts) (SpellsUnitary level (Pred p ts))
 atom_piece level scope p ts n b = seen
     (λ us s. let w = s.2 in atom w.0 ts s.1 w.1 s.3 (ap (λ q. Pred q ts) w.2) (s.4 ∙ ap (λ (xs : List Token). xs ++ s.1) w.3))
     (followed (word p n.0) (arguments scope ts n.1 b) (arguments_follow ts))
 
+-- a formula in brackets
 in_brackets : (level : ℕ) (f : Formula) (text : Text) → level < MOST_LEVELS → Gives NoWord text (SpellsFormula (level + 1) f) → Gives NoWord (codes "(" ++ text ++ codes ")") (SpellsUnitary level f)
 in_brackets level f text room p = seen
     (λ ts s. let l = s.2 in brackets (l.2).0 l.1 (s.3).0 room (l.2).1 l.3 (s.3).1 (s.4 ∙ ap (λ (xs : List Token). xs ++ s.1) (l.4 ∙ ap (λ (xs : List Token). xs ++ l.1) (l.2).2) ∙ ap (λ (xs : List Token). (l.2).0 ∷ (l.1 ++ xs)) (s.3).2))
     (before (λ rest may. tt) (followed (followed open_parenthesis p (λ rest may. tt)) close_parenthesis (λ rest may. refl)))
 
+-- a negation
 negation_piece : (level : ℕ) (f g : Formula) (text : Text) → level < MOST_LEVELS → f ≡ Not g → Gives NoWord text (SpellsUnitary (level + 1) g) → Gives NoWord (codes "~ " ++ text) (SpellsUnitary level f)
 negation_piece level f g text room is p = seen
     (λ ts s. negation g (s.2).0 s.1 room (s.2).1 s.3 is (s.4 ∙ ap (λ (xs : List Token). xs ++ s.1) (s.2).2))
     (followed tilde p (λ rest may. tt))
 
+-- two formulas and a connective
 binary_piece : (level : ℕ) (f : Formula) (o : Op) (g h : Formula) (x y : Text) → f ≡ Binary o g h → Gives NoWord x (SpellsUnitary level g) → Gives NoWord y (SpellsUnitary level h) → Gives NoWord (x ++ codes " " ++ op_text o ++ codes " " ++ y) (SpellsFormula level f)
 binary_piece level f o g h x y is p q = seen
     (λ ts s. let l = s.2 in binary o g h l.0 (l.3).0 s.1 l.2 (l.3).1 s.3 is (split_by ts l.0 s.1 l.1 s.0 (l.3).0 s.4 l.4 (l.3).2))
@@ -63,6 +69,7 @@ binary_piece level f o g h x y is p q = seen
 abbrev Quantifies : Kind → ℕ → List Text → Formula → List Token → Type 0
 Quantifies k level xs g ts = (first : Token) × (us : List Token) × (colon : Token) × (vs : List Token) × (first.kind ≡ k) × SpellsVariables xs us × (colon.kind ≡ kind.Colon) × SpellsUnitary (level + 1) g vs × (ts ≡ first ∷ (us ++ (colon ∷ vs)))
 
+-- a quantified formula
 quantifies : (level : ℕ) (k : Kind) (sign : Text) (xs : List Text) (g : Formula) (text : Text) → Gives Any sign (IsOne k) → AreVariables xs → Gives NoWord text (SpellsUnitary (level + 1) g) → Gives NoWord (sign ++ variables_text xs ++ text) (Quantifies k level xs g)
 quantifies level k sign xs g text first b p = seen
     (λ ts s.
@@ -86,6 +93,7 @@ abbrev Chained : Kind → ℕ → {n : _} → Row_of-Formula n → List Token �
 Chained k level end_of-Formula ts = ts ≡ []
 Chained k level (more_of-Formula g rest) ts = (us : List Token) × (vs : List Token) × SpellsUnitary level g us × SpellsRest k level (members_of rest) vs × (ts ≡ us ++ vs)
 
+-- one more member of a chain
 one_more : {n : _} (k : Kind) (level : ℕ) (g h : Formula) (rest : Row_of-Formula n) (ts : List Token) → Both (Both (SpellsUnitary level g) (IsOne k)) (Chained k level (more_of-Formula h rest)) ts → Chained k level (more_of-Formula g (more_of-Formula h rest)) ts
 one_more k level g h rest ts s =
     let l = s.2 in
@@ -97,6 +105,7 @@ one_more k level g h rest ts s =
       split_by ts l.0 s.1 l.1 s.0 (l.3).0 s.4 l.4 (l.3).2 ∙ ap (λ (zs : List Token). l.0 ++ ((l.3).0 ∷ zs)) c.4,
     )
 
+-- a chain of members is their conjunction, or their disjunction
 chained : {n : _} (c : Chain) (row : Row_of-Formula n) (level : ℕ) (f : Formula) (ts : List Token) → f ≡ chain_of c (members_of row) → TwoOrMore row → Chained (chain_kind c) level row ts → SpellsFormula level f ts
 chained c end_of-Formula level f ts is two k = absurd two
 chained c (more_of-Formula g end_of-Formula) level f ts is two k = absurd two

@@ -17,6 +17,7 @@ use Rattle.tptp_printer.proofs.Pieces.{Any, BlankNext, Gives, IsOne, one_blank, 
 sign : (k : Kind) (text : Text) → kind_of text ≡ Some k → ((c : ℕ) (cs : Text) → kind_of (text ++ c ∷ cs) ≡ None) → Gives Any text (IsOne k)
 sign k text is longer = seen (λ ts s. (s.0, s.1, s.3)) (one_token k text (λ rest may. record { token = is; longest = λ c more after e. longer c more }))
 
+-- the signs, with the blanks that are printed with some of them
 pub open_parenthesis : Gives Any (codes "(") (IsOne kind.OpenParenthesis)
 unfolding kind_of
 open_parenthesis = sign kind.OpenParenthesis (codes "(") refl (λ c cs. refl)
@@ -41,6 +42,7 @@ pub dot : Gives Any (codes ".") (IsOne kind.Dot)
 unfolding kind_of
 dot = sign kind.Dot (codes ".") refl (λ c cs. refl)
 
+-- the first byte of a rest that begins with a blank
 blank_is : (rest : Text) (c : ℕ) (cs : Text) → rest ≡ c ∷ cs → begins_with 32 rest ≡ true → c ≡ 32
 blank_is [] c cs e h = absurd (cc)
 blank_is (d ∷ ds) c cs e h = let same : d ≡ c = cc in sym same ∙ eqb-true d 32 h
@@ -53,9 +55,11 @@ led_sign k text is longer = seen (λ ts s. (s.0, s.1, s.3)) (one_token k text (�
 pub gap_after : {may : Text → Type 0} {text : Text} {S : List Token → Type 0} (b : ℕ) → is_blank b ≡ true → ((rest : Text) → may (b ∷ rest)) → Gives may text S → Gives Any (text ++ b ∷ []) S
 gap_after {S = S} b is follows p = seen (λ ts s. subst S (sym (s.4 ∙ ap (λ (us : List Token). s.0 ++ us) s.3 ∙ append-nil s.0)) s.2) (followed p (one_blank b is) (λ rest may. follows rest))
 
+-- a blank behind a piece
 pub blank_after : {may : Text → Type 0} {text : Text} {S : List Token → Type 0} → ((rest : Text) → may (codes " " ++ rest)) → Gives may text S → Gives Any (text ++ codes " ") S
 blank_after follows p = gap_after 32 refl follows p
 
+-- a blank before a piece
 blank_before : {may : Text → Type 0} {text : Text} {S : List Token → Type 0} → Gives may text S → Gives may (codes " " ++ text) S
 blank_before {S = S} p = seen (λ ts s. subst S (sym (s.4 ∙ ap (λ (us : List Token). us ++ s.1) s.2)) s.3) (followed (one_blank 32 refl) p (λ rest may. tt))
 
@@ -91,6 +95,7 @@ pub bar : Gives Any (codes " | ") (IsOne kind.Bar)
 unfolding kind_of
 bar = blank_before (blank_after (λ rest. refl) (led_sign kind.Bar (codes "|") refl (λ cs. refl)))
 
+-- a connective in front of a blank
 pub connective : (o : Op) → Gives BlankNext (op_text o) (IsOne (op_kind o))
 unfolding kind_of
 connective op.Implies = led_sign kind.Implies (codes "=>") refl (λ cs. refl)

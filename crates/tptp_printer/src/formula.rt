@@ -56,7 +56,8 @@ fn put_variables(names: &[Name], out: &mut Bytes) -> Result<(), Memory>
 /// Appends a formula inside another one.
 #[cycle(formula)]
 fn put_unit(formula: &Formula, out: &mut Bytes) -> Result<(), Memory>
-    ensures text { OnOk result (out.new ≡ out.old ++ in_unit formula.now (formula_text formula.now)) }
+    ensures text { OnOk result (out.new ≡ out.old
+        ++ in_unit formula.now (formula_text formula.now)) }
     ensures named { OnOk result (IsNamed formula.now) }
 {
     match formula {

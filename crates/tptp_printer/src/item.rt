@@ -30,7 +30,8 @@ fn role_word(role: Role) -> &'static [u8]
 /// Appends the names of a selection with a comma between each two.
 #[tactic(auto, using(crate::proofs::Joined::joined_led))]
 fn put_names(names: &[Name], out: &mut Bytes) -> Result<(), Memory>
-    ensures text { OnOk result (out.new ≡ out.old ++ joined_texts (codes ",") (map name_text names.now)) }
+    ensures text { OnOk result (out.new ≡ out.old
+        ++ joined_texts (codes ",") (map name_text names.now)) }
     ensures named { OnOk result (AllByRecursion IsNameText names.now) }
 {
     let mut before: &[u8] = b"";
