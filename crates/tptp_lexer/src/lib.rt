@@ -14,8 +14,6 @@ mod piece;
 mod quote;
 mod refusal;
 mod sign;
-#[cfg(test)]
-mod tests;
 mod token;
 mod token_list;
 

@@ -2,8 +2,8 @@
 use Rattle.std.proofs.Common.{◌≡◌, ℕ, ◌+◌, ◌<◌, ◌≤◌, List, [], ◌∷◌, ◌++◌, codes, refl, ap, sym, ◌∙◌, arith, append_assoc}
 use Rattle.std.proofs.lemmas.List.{append-nil}
 use Rattle.text_core.specs.Names.{Text}
-use Rattle.logic_core.specs.Nesting.{depth, greatest_depth, nesting}
-use Rattle.logic_core.specs.Problems.{TermIsBound, AreVariables, TwoOrMore, IsBoundIn, EachIsBoundIn}
+use Rattle.logic_core.specs.Allowed.{depth, greatest_depth, nesting}
+use Rattle.logic_core.specs.Allowed.{TermIsBound, AreVariables, TwoOrMore, IsBoundIn, EachIsBoundIn}
 use Rattle.logic_core.specs.declared.formula.Op.{Op}
 use Rattle.logic_core.specs.declared.formula.Term.{Term}
 use Rattle.logic_core.specs.declared.formula.Formula.{Formula, True, False, Pred, Equal, Not, And, Or, Binary, Not', And', Or', Binary', ForAll', Exists', Row_of-Formula, end_of-Formula, more_of-Formula}
@@ -11,7 +11,7 @@ use Rattle.tptp_lexer.specs.declared.kind.Kind.{Kind}
 use Rattle.tptp_lexer.specs.declared.kind.Kind.TheVariants as kind
 use Rattle.tptp_lexer.specs.Tokens.{Token}
 use Rattle.text_core.specs.declared.limits.TheConstants.{MOST_LEVELS}
-use Rattle.tptp_grammar.specs.Spells.{SpellsVariables, SpellsFormula, alone, conjunction, disjunction, binary, SpellsRest, end, further, SpellsUnitary, brackets, negation, for_all, there_is, truth, falsehood, atom, equation, inequality}
+use Rattle.tptp_grammar.specs.Spells.{Chain, conjunction, disjunction, chain_kind, chain_of, for_all, there_is, SpellsVariables, SpellsFormula, alone, chain, binary, SpellsRest, end, further, SpellsUnitary, brackets, negation, quantified, truth, atom, equation, inequality}
 use Rattle.tptp_printer.specs.Canonical.{term_text, arguments_text, word_text, op_text, variables_text, in_unit, formula_text, chain_text}
 use Rattle.tptp_printer.specs.Named.{TermIsNamed, IsNamed, EachIsNamed}
 use Rattle.tptp_printer.proofs.Pieces.{Any, NoWord, Gives, Both, IsOne, nothing, seen, before, followed}
@@ -70,8 +70,8 @@ abbrev Quantifies : Kind → ℕ → List Text → Formula → List Token → Ty
 Quantifies k level xs g ts = (first : Token) × (us : List Token) × (colon : Token) × (vs : List Token) × (first.kind ≡ k) × SpellsVariables xs us × (colon.kind ≡ kind.Colon) × SpellsUnitary (level + 1) g vs × (ts ≡ first ∷ (us ++ (colon ∷ vs)))
 
 -- a quantified formula
-quantified : (level : ℕ) (k : Kind) (sign : Text) (xs : List Text) (g : Formula) (text : Text) → Gives Any sign (IsOne k) → AreVariables xs → Gives NoWord text (SpellsUnitary (level + 1) g) → Gives NoWord (sign ++ variables_text xs ++ text) (Quantifies k level xs g)
-quantified level k sign xs g text first b p = seen
+quantifies : (level : ℕ) (k : Kind) (sign : Text) (xs : List Text) (g : Formula) (text : Text) → Gives Any sign (IsOne k) → AreVariables xs → Gives NoWord text (SpellsUnitary (level + 1) g) → Gives NoWord (sign ++ variables_text xs ++ text) (Quantifies k level xs g)
+quantifies level k sign xs g text first b p = seen
     (λ ts s.
     let l = s.2 in
     let v = l.3 in
@@ -105,46 +105,40 @@ one_more k level g h rest ts s =
       split_by ts l.0 s.1 l.1 s.0 (l.3).0 s.4 l.4 (l.3).2 ∙ ap (λ (zs : List Token). l.0 ++ ((l.3).0 ∷ zs)) c.4,
     )
 
--- a chain of members is their conjunction
-conjunction_of : {n : _} (row : Row_of-Formula n) (level : ℕ) (f : Formula) (ts : List Token) → f ≡ And (members_of row) → TwoOrMore row → Chained kind.Ampersand level row ts → SpellsFormula level f ts
-conjunction_of end_of-Formula level f ts is two c = absurd two
-conjunction_of (more_of-Formula g end_of-Formula) level f ts is two c = absurd two
-conjunction_of (more_of-Formula g (more_of-Formula h rest)) level f ts is two c = conjunction g h (members_of rest) c.0 c.1 c.2 c.3 is c.4
-
--- a chain of members is their disjunction
-disjunction_of : {n : _} (row : Row_of-Formula n) (level : ℕ) (f : Formula) (ts : List Token) → f ≡ Or (members_of row) → TwoOrMore row → Chained kind.Bar level row ts → SpellsFormula level f ts
-disjunction_of end_of-Formula level f ts is two c = absurd two
-disjunction_of (more_of-Formula g end_of-Formula) level f ts is two c = absurd two
-disjunction_of (more_of-Formula g (more_of-Formula h rest)) level f ts is two c = disjunction g h (members_of rest) c.0 c.1 c.2 c.3 is c.4
+-- a chain of members is their conjunction, or their disjunction
+chained : {n : _} (c : Chain) (row : Row_of-Formula n) (level : ℕ) (f : Formula) (ts : List Token) → f ≡ chain_of c (members_of row) → TwoOrMore row → Chained (chain_kind c) level row ts → SpellsFormula level f ts
+chained c end_of-Formula level f ts is two k = absurd two
+chained c (more_of-Formula g end_of-Formula) level f ts is two k = absurd two
+chained c (more_of-Formula g (more_of-Formula h rest)) level f ts is two k = chain c g h (members_of rest) k.0 k.1 k.2 k.3 is k.4
 
 mutual
   -- a formula inside another one, where so many levels are open
   unit : (f : Formula) (scope : List Text) (level : ℕ) → IsNamed f → IsBoundIn scope f → depth f + level ≤ 200 → Gives NoWord (in_unit f (formula_text f)) (SpellsUnitary level f)
-  unit True scope level n b d = seen (λ ts s. truth s.0 s.1 s.2 refl s.3) (dollar_word (codes "true") refl)
-  unit False scope level n b d = seen (λ ts s. falsehood s.0 s.1 s.2 refl s.3) (dollar_word (codes "false") refl)
+  unit True scope level n b d = seen (λ ts s. truth true s.0 s.1 s.2 refl s.3) (dollar_word (codes "true") refl)
+  unit False scope level n b d = seen (λ ts s. truth false s.0 s.1 s.2 refl s.3) (dollar_word (codes "false") refl)
   unit (Pred p ts) scope level n b d = atom_piece level scope p ts n b
   unit (Equal t u) scope level n b d = equation_piece level scope t u n b
   unit (Not' s (more_of-Formula (Equal t u) r)) scope level n b d = inequality_piece level scope t u n b (Not' s (more_of-Formula (Equal t u) r)) (as_built (Not' s (more_of-Formula (Equal t u) r)))
   unit (Not' s (more_of-Formula g r)) scope level n b d = negation_piece level (Not' s (more_of-Formula g r)) g (in_unit g (formula_text g)) (omega arith) (as_built (Not' s (more_of-Formula g r))) (unit g scope (level + 1) n b (omega arith))
-  unit (And' s row) scope level n b d = in_brackets level (And' s row) (chain_text (codes " & ") row) (omega arith) (seen (λ ts c. conjunction_of row (level + 1) (And' s row) ts (as_built (And' s row)) b.0 c) (chain row kind.Ampersand (codes " & ") ampersand (λ rest. refl) scope (level + 1) n b.1 (omega arith)))
-  unit (Or' s row) scope level n b d = in_brackets level (Or' s row) (chain_text (codes " | ") row) (omega arith) (seen (λ ts c. disjunction_of row (level + 1) (Or' s row) ts (as_built (Or' s row)) b.0 c) (chain row kind.Bar (codes " | ") bar (λ rest. refl) scope (level + 1) n b.1 (omega arith)))
+  unit (And' s row) scope level n b d = in_brackets level (And' s row) (chain_text (codes " & ") row) (omega arith) (seen (λ ts c. chained conjunction row (level + 1) (And' s row) ts (as_built (And' s row)) b.0 c) (members row kind.Ampersand (codes " & ") ampersand (λ rest. refl) scope (level + 1) n b.1 (omega arith)))
+  unit (Or' s row) scope level n b d = in_brackets level (Or' s row) (chain_text (codes " | ") row) (omega arith) (seen (λ ts c. chained disjunction row (level + 1) (Or' s row) ts (as_built (Or' s row)) b.0 c) (members row kind.Bar (codes " | ") bar (λ rest. refl) scope (level + 1) n b.1 (omega arith)))
   unit (Binary' o s (more_of-Formula g r) z (more_of-Formula h q)) scope level n b d = in_brackets level (Binary' o s (more_of-Formula g r) z (more_of-Formula h q)) (formula_text (Binary' o s (more_of-Formula g r) z (more_of-Formula h q))) (omega arith) (binary_piece (level + 1) (Binary' o s (more_of-Formula g r) z (more_of-Formula h q)) o g h (in_unit g (formula_text g)) (in_unit h (formula_text h)) (as_built (Binary' o s (more_of-Formula g r) z (more_of-Formula h q))) (unit g scope (level + 1) n.0 b.0 (omega arith)) (unit h scope (level + 1) n.1 b.1 (omega arith)))
   unit (ForAll' xs s (more_of-Formula g r)) scope level n b d = seen
-      (λ ts q. for_all xs g q.0 q.1 q.2 q.3 (omega arith) q.4 q.5 q.6 q.7 (as_built (ForAll' xs s (more_of-Formula g r))) q.8)
-      (quantified level kind.Exclamation (codes "! ") xs g (in_unit g (formula_text g)) exclamation b.0 (unit g (xs ++ scope) (level + 1) n b.1 (omega arith)))
+      (λ ts q. quantified for_all xs g q.0 q.1 q.2 q.3 (omega arith) q.4 q.5 q.6 q.7 (as_built (ForAll' xs s (more_of-Formula g r))) q.8)
+      (quantifies level kind.Exclamation (codes "! ") xs g (in_unit g (formula_text g)) exclamation b.0 (unit g (xs ++ scope) (level + 1) n b.1 (omega arith)))
   unit (Exists' xs s (more_of-Formula g r)) scope level n b d = seen
-      (λ ts q. there_is xs g q.0 q.1 q.2 q.3 (omega arith) q.4 q.5 q.6 q.7 (as_built (Exists' xs s (more_of-Formula g r))) q.8)
-      (quantified level kind.Question (codes "? ") xs g (in_unit g (formula_text g)) question b.0 (unit g (xs ++ scope) (level + 1) n b.1 (omega arith)))
+      (λ ts q. quantified there_is xs g q.0 q.1 q.2 q.3 (omega arith) q.4 q.5 q.6 q.7 (as_built (Exists' xs s (more_of-Formula g r))) q.8)
+      (quantifies level kind.Question (codes "? ") xs g (in_unit g (formula_text g)) question b.0 (unit g (xs ++ scope) (level + 1) n b.1 (omega arith)))
 
   -- the members of a chain
-  chain : {n : _} (row : Row_of-Formula n) (k : Kind) (sign : Text) → Gives Any sign (IsOne k) → ((rest : Text) → NoWord (sign ++ rest)) → (scope : List Text) (level : ℕ) → EachIsNamed row → EachIsBoundIn scope row → greatest_depth row + level ≤ 200 → Gives NoWord (chain_text sign row) (Chained k level row)
-  chain end_of-Formula k sign p follows scope level n b d = before (λ rest may. tt) nothing
-  chain (more_of-Formula g end_of-Formula) k sign p follows scope level n b d = seen (λ ts s. (ts, [], s, end, sym (append-nil ts))) (unit g scope level n.0 b.0 (omega arith))
-  chain (more_of-Formula g (more_of-Formula h rest)) k sign p follows scope level n b d = seen (one_more k level g h rest) (followed (followed (unit g scope level n.0 b.0 (omega arith)) p (λ rest may. follows rest)) (chain (more_of-Formula h rest) k sign p follows scope level n.1 b.1 (omega arith)) (λ rest may. tt))
+  members : {n : _} (row : Row_of-Formula n) (k : Kind) (sign : Text) → Gives Any sign (IsOne k) → ((rest : Text) → NoWord (sign ++ rest)) → (scope : List Text) (level : ℕ) → EachIsNamed row → EachIsBoundIn scope row → greatest_depth row + level ≤ 200 → Gives NoWord (chain_text sign row) (Chained k level row)
+  members end_of-Formula k sign p follows scope level n b d = before (λ rest may. tt) nothing
+  members (more_of-Formula g end_of-Formula) k sign p follows scope level n b d = seen (λ ts s. (ts, [], s, end, sym (append-nil ts))) (unit g scope level n.0 b.0 (omega arith))
+  members (more_of-Formula g (more_of-Formula h rest)) k sign p follows scope level n b d = seen (one_more k level g h rest) (followed (followed (unit g scope level n.0 b.0 (omega arith)) p (λ rest may. follows rest)) (members (more_of-Formula h rest) k sign p follows scope level n.1 b.1 (omega arith)) (λ rest may. tt))
 
 -- a whole formula
 pub whole : (f : Formula) (scope : List Text) (level : ℕ) → IsNamed f → IsBoundIn scope f → nesting f + level ≤ 200 → Gives NoWord (formula_text f) (SpellsFormula level f)
-whole (And' s row) scope level n b d = seen (λ ts c. conjunction_of row level (And' s row) ts (as_built (And' s row)) b.0 c) (chain row kind.Ampersand (codes " & ") ampersand (λ rest. refl) scope level n b.1 d)
-whole (Or' s row) scope level n b d = seen (λ ts c. disjunction_of row level (Or' s row) ts (as_built (Or' s row)) b.0 c) (chain row kind.Bar (codes " | ") bar (λ rest. refl) scope level n b.1 d)
+whole (And' s row) scope level n b d = seen (λ ts c. chained conjunction row level (And' s row) ts (as_built (And' s row)) b.0 c) (members row kind.Ampersand (codes " & ") ampersand (λ rest. refl) scope level n b.1 d)
+whole (Or' s row) scope level n b d = seen (λ ts c. chained disjunction row level (Or' s row) ts (as_built (Or' s row)) b.0 c) (members row kind.Bar (codes " | ") bar (λ rest. refl) scope level n b.1 d)
 whole (Binary' o s (more_of-Formula g r) z (more_of-Formula h q)) scope level n b d = binary_piece level (Binary' o s (more_of-Formula g r) z (more_of-Formula h q)) o g h (in_unit g (formula_text g)) (in_unit h (formula_text h)) (as_built (Binary' o s (more_of-Formula g r) z (more_of-Formula h q))) (unit g scope level n.0 b.0 (omega arith)) (unit h scope level n.1 b.1 (omega arith))
 whole f scope level n b d = seen (λ ts s. alone s) (unit f scope level n b d)

@@ -3,7 +3,7 @@ use Rattle.std.proofs.Common.{◌≡◌, ℕ, ◌≤◌, true, List, length, dro
 use Rattle.std.specs.List.{AllByRecursion}
 use Rattle.std.proofs.lemmas.List.{append-nil, drop_all}
 use Rattle.text_core.specs.Names.{Text, IsNameText, is_lower, is_word_from}
-use Rattle.logic_core.specs.Problems.{FofMayStand, ItemMayStand}
+use Rattle.logic_core.specs.Allowed.{FofIsAllowed, ItemIsAllowed}
 use Rattle.logic_core.specs.declared.problem.Role.{Role}
 use Rattle.logic_core.specs.declared.problem.Role.TheVariants as role
 use Rattle.logic_core.specs.declared.problem.Fof.{Fof}
@@ -11,9 +11,8 @@ use Rattle.logic_core.specs.declared.problem.Item.{Item}
 use Rattle.logic_core.specs.declared.problem.Item.TheVariants.{Fof as ItemFof, Include}
 use Rattle.tptp_lexer.specs.declared.kind.Kind.TheVariants as kind
 use Rattle.tptp_lexer.specs.Tokens.{Token, AreTokens, stop}
-use Rattle.tptp_grammar.specs.Marks.{role_text}
-use Rattle.tptp_grammar.specs.Spells.{IsNaming, SpellsName, SpellsListed, SpellsFormula, no_annotation, SpellsFof, SpellsSelection, SpellsInclude, SpellsItem, SpellsItems}
-use Rattle.tptp_grammar.specs.Texts.{ItemIsClosed, AreItemsOf}
+use Rattle.tptp_grammar.specs.Roles.{role_text}
+use Rattle.tptp_grammar.specs.Spells.{IsNaming, SpellsName, SpellsListed, SpellsFormula, no_annotation, SpellsFof, SpellsSelection, SpellsInclude, SpellsItem, SpellsItems, ItemIsClosed, AreItemsOf}
 use Rattle.tptp_printer.specs.Canonical.{name_text, selection_text, item_text, items_text, problem_text}
 use Rattle.tptp_printer.specs.Named.{SelectionIsNamed, ItemIsNamed}
 use Rattle.tptp_printer.proofs.Pieces.{Any, NoWord, Gives, Both, IsOne, IsToken, nothing, seen, followed}
@@ -95,7 +94,7 @@ fof_tokens fof ts s =
     }
 
 -- a formula with its name and role
-fof_piece : (fof : Fof) → FofMayStand fof → ItemIsNamed (ItemFof fof) → Gives Any (item_text (ItemFof fof)) (SpellsFof fof)
+fof_piece : (fof : Fof) → FofIsAllowed fof → ItemIsNamed (ItemFof fof) → Gives Any (item_text (ItemFof fof)) (SpellsFof fof)
 fof_piece fof m n =
     let head = followed (opening (codes "fof") refl) (naming fof.name n.0) (λ rest may. tt) in
     let role = followed (followed head comma (λ rest may. refl)) (lower_word (role_text fof.role) (role_word fof.role)) (λ rest may. tt) in
@@ -121,7 +120,7 @@ selection_tokens names ts s =
     )
 
 -- what follows an inclusion's file
-selection_piece : (file : Text) (only : Option (List Text)) → ItemMayStand (Include file only) → SelectionIsNamed only → Gives Any (selection_text only) (SpellsSelection only)
+selection_piece : (file : Text) (only : Option (List Text)) → ItemIsAllowed (Include file only) → SelectionIsNamed only → Gives Any (selection_text only) (SpellsSelection only)
 selection_piece file None m n = nothing
 selection_piece file (Some []) m n = absurd m
 selection_piece file (Some (name ∷ names)) m n =
@@ -162,29 +161,29 @@ include_tokens file only ts s =
     }
 
 -- an item
-item_piece : (item : Item) → ItemMayStand item → ItemIsNamed item → Gives Any (item_text item) (SpellsItem item)
+item_piece : (item : Item) → ItemIsAllowed item → ItemIsNamed item → Gives Any (item_text item) (SpellsItem item)
 item_piece (ItemFof fof) m n = fof_piece fof m n
 item_piece (Include file only) m n =
     let head = followed (opening (codes "include") refl) (quoted file n.0) (λ rest may. tt) in
     gap_after 10 refl (λ rest. tt) (seen (include_tokens file only) (followed (followed head (selection_piece file only m n.1) (λ rest may. tt)) closing (λ rest may. tt)))
 
 -- items one after another
-items_piece : (items : List Item) → AllByRecursion ItemMayStand items → AllByRecursion ItemIsNamed items → Gives Any (items_text items) (SpellsItems items)
+items_piece : (items : List Item) → AllByRecursion ItemIsAllowed items → AllByRecursion ItemIsNamed items → Gives Any (items_text items) (SpellsItems items)
 items_piece [] m n = nothing
 items_piece (item ∷ items) m n = followed (item_piece item m.0 n.0) (items_piece items m.1 n.1) (λ rest may. tt)
 
 -- an item that may be in a problem is closed
-is_closed : (item : Item) → ItemMayStand item → ItemIsClosed item
+is_closed : (item : Item) → ItemIsAllowed item → ItemIsClosed item
 is_closed (ItemFof fof) m = m.closed
 is_closed (Include file only) m = tt
 
 -- so are items
-are_closed : (items : List Item) → AllByRecursion ItemMayStand items → AllByRecursion ItemIsClosed items
+are_closed : (items : List Item) → AllByRecursion ItemIsAllowed items → AllByRecursion ItemIsClosed items
 are_closed [] m = tt
 are_closed (item ∷ items) m = (is_closed item m.0, are_closed items m.1)
 
 -- the text of items has tokens, which are a text of the same items
-read_back : (items : List Item) (bytes : Text) → bytes ≡ items_text items → AllByRecursion ItemMayStand items → AllByRecursion ItemIsNamed items → (ts : List Token) × AreTokens bytes ts × AreItemsOf ts items
+read_back : (items : List Item) (bytes : Text) → bytes ≡ items_text items → AllByRecursion ItemIsAllowed items → AllByRecursion ItemIsNamed items → (ts : List Token) × AreTokens bytes ts × AreItemsOf ts items
 read_back items bytes e m n =
     let g = (items_piece items m n).give 0 [] tt in (
       g.0,
@@ -193,7 +192,7 @@ read_back items bytes e m n =
     )
 
 -- formulas that may be in a problem, as items
-each_fof : (fofs : List Fof) → AllByRecursion FofMayStand fofs → AllByRecursion ItemMayStand (map ItemFof fofs)
+each_fof : (fofs : List Fof) → AllByRecursion FofIsAllowed fofs → AllByRecursion ItemIsAllowed (map ItemFof fofs)
 each_fof [] m = tt
 each_fof (fof ∷ fofs) m = (m.0, each_fof fofs m.1)
 
@@ -205,11 +204,11 @@ named_fofs (fof ∷ fofs) n = (n.0, named_fofs fofs n.1)
 -- the same for one item, and for the formulas of a problem
 
 -- for one item
-pub item_back : (item : Item) (bytes : Text) → bytes ≡ item_text item → ItemMayStand item → ItemIsNamed item → (ts : List Token) × AreTokens bytes ts × AreItemsOf ts (item ∷ [])
+pub item_back : (item : Item) (bytes : Text) → bytes ≡ item_text item → ItemIsAllowed item → ItemIsNamed item → (ts : List Token) × AreTokens bytes ts × AreItemsOf ts (item ∷ [])
 item_back item bytes e m n = read_back (item ∷ []) bytes (e ∙ sym (append-nil (item_text item))) (m, tt) (n, tt)
 
 -- for the formulas of a problem
-pub problem_back : (fofs items : List Fof) (at : ℕ) (bytes : Text) → length items ≤ at → bytes ++ problem_text (drop at items) ≡ problem_text fofs → AllByRecursion FofMayStand fofs → (AllByRecursion (λ fof. ItemIsNamed (ItemFof fof)) (drop at items) → AllByRecursion (λ fof. ItemIsNamed (ItemFof fof)) fofs) → (ts : List Token) × AreTokens bytes ts × AreItemsOf ts (map ItemFof fofs)
+pub problem_back : (fofs items : List Fof) (at : ℕ) (bytes : Text) → length items ≤ at → bytes ++ problem_text (drop at items) ≡ problem_text fofs → AllByRecursion FofIsAllowed fofs → (AllByRecursion (λ fof. ItemIsNamed (ItemFof fof)) (drop at items) → AllByRecursion (λ fof. ItemIsNamed (ItemFof fof)) fofs) → (ts : List Token) × AreTokens bytes ts × AreItemsOf ts (map ItemFof fofs)
 problem_back fofs items at bytes done e m n =
     let left : drop at items ≡ [] = drop_all at items done in
     read_back (map ItemFof fofs) bytes (sym (append-nil bytes) ∙ ap (λ rest. bytes ++ problem_text rest) (sym left) ∙ e) (each_fof fofs m) (named_fofs fofs (n (subst (AllByRecursion (λ fof. ItemIsNamed (ItemFof fof))) (sym left) tt)))

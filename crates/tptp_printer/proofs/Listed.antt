@@ -3,7 +3,7 @@ use Rattle.std.proofs.Common.{◌≡◌, List, [], ◌∷◌, ◌++◌, map, cod
 use Rattle.std.specs.List.{AllByRecursion}
 use Rattle.std.proofs.lemmas.List.{append-nil}
 use Rattle.text_core.specs.Names.{Text, is_upper_word}
-use Rattle.logic_core.specs.Problems.{TermIsBound, AreVariables}
+use Rattle.logic_core.specs.Allowed.{TermIsBound, AreVariables}
 use Rattle.logic_core.specs.declared.formula.Term.{Term}
 use Rattle.logic_core.specs.declared.formula.Term.TheVariants.{Variable, Constant}
 use Rattle.tptp_lexer.specs.declared.kind.Kind.{Kind}

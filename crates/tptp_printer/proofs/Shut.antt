@@ -1,6 +1,6 @@
 -- A formula that definitions by cases take apart, as code builds it.
 use Rattle.std.proofs.Common.{◌≡◌, List, [], ◌∷◌, refl, ap, sym, ◌∙◌}
-use Rattle.logic_core.specs.Openings.{row_of, Not_opens, And_opens, Or_opens, Binary_opens, ForAll_opens, Exists_opens}
+use Rattle.logic_core.proofs.Laws.{row_of, Not_opens, And_opens, Or_opens, Binary_opens, ForAll_opens, Exists_opens}
 use Rattle.logic_core.specs.declared.formula.Formula.{Formula, True, False, Pred, Equal, Not, And, Or, Binary, ForAll, Exists, Not', And', Or', Binary', ForAll', Exists', Row_of-Formula, end_of-Formula, more_of-Formula}
 use Rattle.logic_core.specs.declared.formula.Formula.TheBlock.{shape-the_row-Formula-1}
 use Rattle.logic_core.specs.declared.formula.Formula.TheOpen as layer

@@ -11,7 +11,7 @@ use Rattle.logic_core.specs.declared.problem.Fof.{Fof}
 use Rattle.logic_core.specs.declared.problem.Item.{Item}
 use Rattle.logic_core.specs.declared.problem.Item.TheVariants.{Fof as ItemFof, Include}
 use Rattle.tptp_lexer.specs.Kinds.{is_integer}
-use Rattle.tptp_grammar.specs.Marks.{role_text}
+use Rattle.tptp_grammar.specs.Roles.{role_text}
 
 -- the quote (39) and the backslash (92) behind a backslash, other bytes as they are
 abbrev pub escaped : Text → Text
