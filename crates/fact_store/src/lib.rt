@@ -5,8 +5,6 @@
 mod chains;
 mod entry;
 mod store;
-#[cfg(test)]
-mod tests;
 mod walk;
 
 pub use store::Store;

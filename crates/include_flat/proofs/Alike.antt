@@ -1,22 +1,22 @@
 -- A walk depends only on which names are in every selection.
-use Rattle.std.proofs.Common.{ℕ, ◌≡◌, Bool, true, false, cond, List, [], ◌∷◌, ◌++◌, Option, Some, None, ap, ◌∙◌, ◌&&◌}
+use Rattle.std.proofs.Common.{ℕ, ◌≡◌, Bool, cond, List, [], ◌∷◌, ◌++◌, Option, Some, None, ap, ◌∙◌, ◌&&◌}
 use Rattle.std.specs.List.{list_any}
 use Rattle.std.specs.Str.{bytes_eq}
 use Rattle.text_core.specs.Names.{Text}
 use Rattle.logic_core.specs.declared.problem.Fof.{Fof}
 use Rattle.logic_core.specs.declared.problem.Item.{Item}
-use Rattle.io_core.specs.Causes.{Held}
+use Rattle.io_core.specs.Held.{Held}
 use Rattle.include_flat.specs.declared.refusal.FlatWhy.{FlatWhy}
 use Rattle.include_flat.specs.declared.walked.Walked.{Walked}
 use Rattle.include_flat.specs.Walks.{Entry, Selections, WalksFile, WalksBytes, WalksItems, kept_entries, with_selection}
 use Rattle.include_flat.specs.Walks.Entry.{kept}
 use Rattle.include_flat.specs.Walks.WalksFile.{too_deep, not_held, too_long, read}
-use Rattle.include_flat.specs.Walks.WalksBytes.{unread, no_tokens, no_items, with_items}
-use Rattle.include_flat.specs.Walks.WalksItems.{cut, end, formula, inclusion, within}
-use Rattle.include_flat.specs.Outside.{Known}
+use Rattle.include_flat.specs.Walks.WalksBytes.{no_tokens, no_items, with_items}
+use Rattle.include_flat.specs.Walks.WalksItems.{end, formula, inclusion}
+use Rattle.io_core.specs.Known.{Known}
 use Rattle.include_flat.specs.Progress.{PassesOver, RefusesOver, over_file, AreAlike}
-use Rattle.include_flat.proofs.Known.{where_told}
-use Rattle.include_flat.proofs.Passing.{refuses_on, passes_none}
+use Rattle.include_flat.proofs.Told.{where_told}
+use Rattle.include_flat.proofs.Passing.{refuses_so}
 
 further : (only : Option (List Text)) (selections others : Selections) → AreAlike selections others →
     AreAlike (with_selection only selections) (with_selection only others)
@@ -29,55 +29,51 @@ entries_alike file selections others fof h = ap (λ (test : Bool). cond test (ke
 
 module _ (held : Held) where
   mutual
-    walk_alike : (whole : Bool) (left : ℕ) (selections others : Selections) (file : Text) (entries : List Entry) → AreAlike selections others →
-        WalksFile held whole left selections file entries → WalksFile held whole left others file entries
-    walk_alike whole _ selections others file _ alike too_deep = too_deep
-    walk_alike whole _ selections others file _ alike (not_held none) = not_held none
-    walk_alike whole _ selections others file _ alike (too_long bytes is long) = too_long bytes is long
-    walk_alike whole _ selections others file _ alike (read {left = left} {entries = rest} bytes is short walk) =
-        read bytes is short (bytes_alike whole left selections others file bytes rest alike walk)
+    walk_alike : (left : ℕ) (selections others : Selections) (file : Text) (entries : List Entry) → AreAlike selections others →
+        WalksFile held left selections file entries → WalksFile held left others file entries
+    walk_alike _ selections others file _ alike too_deep = too_deep
+    walk_alike _ selections others file _ alike (not_held none) = not_held none
+    walk_alike _ selections others file _ alike (too_long bytes is long) = too_long bytes is long
+    walk_alike _ selections others file _ alike (read {left = left} {entries = rest} bytes is short walk) =
+        read bytes is short (bytes_alike left selections others file bytes rest alike walk)
 
-    bytes_alike : (whole : Bool) (left : ℕ) (selections others : Selections) (file bytes : Text) (entries : List Entry) → AreAlike selections others →
-        WalksBytes held whole left selections file bytes entries → WalksBytes held whole left others file bytes entries
-    bytes_alike whole left selections others file bytes _ alike (unread some) = unread some
-    bytes_alike whole left selections others file bytes _ alike (no_tokens refusal fault) = no_tokens refusal fault
-    bytes_alike whole left selections others file bytes _ alike (no_items ts refusal tokens fault) = no_items ts refusal tokens fault
-    bytes_alike whole left selections others file bytes entries alike (with_items ts items tokens text walk) =
-        with_items ts items tokens text (items_alike whole left selections others file items entries alike walk)
+    bytes_alike : (left : ℕ) (selections others : Selections) (file bytes : Text) (entries : List Entry) → AreAlike selections others →
+        WalksBytes held left selections file bytes entries → WalksBytes held left others file bytes entries
+    bytes_alike left selections others file bytes _ alike (no_tokens refusal fault) = no_tokens refusal fault
+    bytes_alike left selections others file bytes _ alike (no_items ts refusal tokens fault) = no_items ts refusal tokens fault
+    bytes_alike left selections others file bytes entries alike (with_items ts items tokens text walk) =
+        with_items ts items tokens text (items_alike left selections others file items entries alike walk)
 
-    items_alike : (whole : Bool) (left : ℕ) (selections others : Selections) (file : Text) (items : List Item) (entries : List Entry) →
-        AreAlike selections others → WalksItems held whole left selections file items entries → WalksItems held whole left others file items entries
-    items_alike whole left selections others file items _ alike (cut some) = cut some
-    items_alike whole left selections others file _ _ alike end = end
-    items_alike whole left selections others file _ entries alike (formula {items = items} fof rest walk split) =
-        formula fof rest (items_alike whole left selections others file items rest alike walk)
+    items_alike : (left : ℕ) (selections others : Selections) (file : Text) (items : List Item) (entries : List Entry) →
+        AreAlike selections others → WalksItems held left selections file items entries → WalksItems held left others file items entries
+    items_alike left selections others file _ _ alike end = end
+    items_alike left selections others file _ entries alike (formula {items = items} fof rest walk split) =
+        formula fof rest (items_alike left selections others file items rest alike walk)
         (split ∙ ap (λ (front : List Entry). front ++ rest) (entries_alike file selections others fof alike))
-    items_alike whole left selections others file _ entries alike (inclusion {items = items} name only front rest inner walk split) =
+    items_alike left selections others file _ entries alike (inclusion {items = items} name only front rest inner walk split) =
         inclusion name only front rest
-        (walk_alike true left (with_selection only selections) (with_selection only others) name front (further only selections others alike) inner)
-        (items_alike whole left selections others file items rest alike walk) split
-    items_alike whole left selections others file _ entries alike (within name only some inner) =
-        within name only some
-        (walk_alike whole left (with_selection only selections) (with_selection only others) name entries (further only selections others alike) inner)
+        (walk_alike left (with_selection only selections) (with_selection only others) name front (further only selections others alike) inner)
+        (items_alike left selections others file items rest alike walk) split
 
 module _ (left : ℕ) (selections others : Selections) (file : Text) (files later : Known) (before : Walked) (alike : AreAlike selections others) where
   pub passes_alike : (after : Walked) → PassesOver (over_file left selections file) files later before after →
       PassesOver (over_file left others file) files later before after
   passes_alike after p = record {
     stays = p.stays;
-    whole = where_told files.held _ _ (λ held w. record {
+    part = where_told files.held _ _ (λ held w. record {
       entries = w.entries;
-      walk = walk_alike held true left selections others file w.entries alike w.walk;
+      walk = walk_alike held left selections others file w.entries alike w.walk;
       passed = w.passed;
-    }) p.whole;
+    }) p.part;
   }
 
   pub refuses_alike : (refused : Text) (why : FlatWhy) → RefusesOver (over_file left selections file) files later before refused why →
       RefusesOver (over_file left others file) files later before refused why
   refuses_alike refused why r = record {
     leaves = r.leaves;
-    ends = where_told files.held _ _ (λ held h. refuses_on (over_file left others file held false) (over_file left selections file held false)
-        before before [] (passes_none before) (λ entries walk. walk_alike held false left selections others file entries alike walk) refused why h) r.ends;
+    memory = r.memory;
+    ends = where_told files.held _ _ (λ held h. refuses_so (over_file left others file held) (over_file left selections file held) before
+        (λ entries walk. walk_alike held left selections others file entries alike walk) refused why h) r.ends;
   }
 
 -- with one more selection

@@ -1,18 +1,19 @@
 -- What the walk from a first file on comes to.
-use Rattle.std.proofs.Common.{◌≡◌, ◌⊎◌, false, List, [], ◌++◌, length, Option, Some, None, sym, ap, ◌∙◌}
+use Rattle.std.proofs.Common.{◌≡◌, ◌⊎◌, List, [], ◌++◌, length, Option, Some, None, sym, ap, ◌∙◌}
 use Rattle.std.specs.Prelude.{IfSome}
 use Rattle.text_core.specs.declared.limits.TheConstants.{MOST_FILES}
 use Rattle.text_core.specs.Names.{Text}
 use Rattle.logic_core.specs.declared.problem.Fof.{Fof}
-use Rattle.io_core.specs.Causes.{Held}
+use Rattle.io_core.specs.Held.{Held}
 use Rattle.include_flat.specs.declared.refusal.FlatWhy.{FlatWhy}
 use Rattle.include_flat.specs.declared.refusal.FlatWhy.TheVariants.{Lex, Syntax, FileFault, FileTooLong, AllTooLong, IncludeDepth, TooManyFormulas, Memory}
 use Rattle.include_flat.specs.declared.walked.Walked.{Walked}
 use Rattle.include_flat.specs.Walks.{Entry}
-use Rattle.include_flat.specs.Flattened.{decision, decision_after, is_refused, kept_of, IsFlat, IsFlatRefused, IsFlatRefusal, IsOutside}
-use Rattle.include_flat.specs.Outside.{Known}
-use Rattle.include_flat.specs.Progress.{over_file, decided, PassesOver, RefusesOver, PassesWhole, Refuses, selections_of}
-use Rattle.include_flat.proofs.Known.{where_told}
+use Rattle.include_flat.specs.Flattened.{decision, decision_after, is_refused, kept_of, IsFlat}
+use Rattle.include_flat.specs.Refusals.{IsFlatRefused, IsFlatRefusal, IsOutside}
+use Rattle.io_core.specs.Known.{Known}
+use Rattle.include_flat.specs.Progress.{over_file, decided, PassesOver, RefusesOver, PassesPart, Refuses, selections_of}
+use Rattle.include_flat.proofs.Told.{where_told}
 use Rattle.include_flat.proofs.OneAnswer.{one_list, never_both, not_refused, refused_alike}
 
 -- before anything is walked, what is decided is decided from the start
@@ -20,7 +21,7 @@ from_start : (before : Walked) (entries : List Entry) → before.bytes ≡ 0 →
 from_start before entries bytes problem = λ i. decision_after (sym bytes i) (length (sym problem i)) entries
 
 module _ (held : Held) (name : Text) (before : Walked) (bytes : before.bytes ≡ 0) (problem : before.problem ≡ []) where
-  flat : (after : Walked) (read : List Fof) → read ≡ after.problem → PassesWhole (over_file MOST_FILES [] name held) before after →
+  flat : (after : Walked) (read : List Fof) → read ≡ after.problem → PassesPart (over_file MOST_FILES [] name held) before after →
       IsFlat held name read
   flat after read is p = (
     p.entries,
@@ -29,13 +30,14 @@ module _ (held : Held) (name : Text) (before : Walked) (bytes : before.bytes ≡
     is ∙ p.passed.problem ∙ ap (λ (fofs : List Fof). fofs ++ kept_of p.entries) problem,
   )
 
-  decided_here : (file : Text) (why : FlatWhy) → (entries : List Entry) × over_file MOST_FILES [] name held false entries ×
+  decided_here : (file : Text) (why : FlatWhy) → (entries : List Entry) × over_file MOST_FILES [] name held entries ×
       (decided before entries ≡ Some (is_refused file why)) → IsFlatRefused held name file why
   decided_here file why (entries, walk, e) = (entries, walk, from_start before entries bytes problem ∙ e)
 
-  flat_refusal : (file : Text) (why : FlatWhy) → Refuses (over_file MOST_FILES [] name held false) before file why → IsFlatRefusal held name file why
+  flat_refusal : (file : Text) (why : FlatWhy) → Refuses (over_file MOST_FILES [] name held) before file why → IsFlatRefusal held name file why
   flat_refusal file Memory h = h
-  flat_refusal file FileFault (entries, entry, walk, asks, none) = (entries, entry, walk, asks, from_start before entries bytes problem ∙ none)
+  flat_refusal file FileFault (front, entry, back, walk, asks, none) =
+      (front, entry, back, walk, asks, from_start before front bytes problem ∙ none)
   flat_refusal file (Lex refusal) h = decided_here file (Lex refusal) h
   flat_refusal file (Syntax refusal) h = decided_here file (Syntax refusal) h
   flat_refusal file FileTooLong h = decided_here file FileTooLong h
@@ -48,7 +50,7 @@ module _ (files later : Known) (name : Text) (selected : Option (List Text)) (be
   module _ (after : Walked) (read : List Fof) (is : read ≡ after.problem)
       (passes : PassesOver (over_file MOST_FILES (selections_of selected) name) files later before after) where
     pub passed_whole : IfSome files.held (λ held. IsFlat held name read)
-    passed_whole = where_told files.held _ _ (λ held p. flat held name before bytes problem after read is p) (rw all at passes).whole
+    passed_whole = where_told files.held _ _ (λ held p. flat held name before bytes problem after read is p) (rw all at passes).part
 
     pub found_list : IfSome files.held (λ held. (other : List Fof) → IsFlat held name other → read ≡ other)
     found_list = where_told files.held _ _ (λ held whole other flat. one_list held name other read flat whole) passed_whole

@@ -1,9 +1,11 @@
 pub mod OneWalk
+pub mod SomeWalk
 pub mod Decisions
 pub mod OneAnswer
 pub mod Selecting
-pub mod Known
+pub mod Told
 pub mod Opening
 pub mod Passing
 pub mod Alike
 pub mod Flat
+pub mod Laws

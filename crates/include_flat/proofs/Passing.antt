@@ -1,12 +1,12 @@
 -- How parts of a walk follow one another.
-use Rattle.std.proofs.Common.{ℕ, suc, ◌≡◌, ◌+◌, ◌-◌, ◌<◌, ◌⊎◌, inl, inr, Bool, true, false, List, [], ◌∷◌, ◌++◌, length, Option, Some, refl, sym, ap, subst, ◌∙◌, append_assoc, append-nil, arith}
+use Rattle.std.proofs.Common.{ℕ, suc, ◌≡◌, ◌+◌, ◌-◌, ◌<◌, ◌⊎◌, inl, inr, List, [], ◌∷◌, ◌++◌, length, Option, Some, refl, sym, ap, subst, ◌∙◌, append_assoc, append-nil, arith}
 use Rattle.std.specs.Prelude.{IfSome}
 use Rattle.std.proofs.lemmas.List.{length-append}
 use Rattle.text_core.specs.Names.{Text}
 use Rattle.logic_core.specs.declared.problem.Fof.{Fof}
 use Rattle.logic_core.specs.declared.problem.Item.{Item}
 use Rattle.logic_core.specs.declared.problem.Item.TheVariants.{Fof as ItemFof, Include}
-use Rattle.io_core.specs.Causes.{Held}
+use Rattle.io_core.specs.Held.{Held}
 use Rattle.include_flat.specs.declared.refusal.FlatWhy.{FlatWhy}
 use Rattle.include_flat.specs.declared.refusal.FlatWhy.TheVariants.{Lex, Syntax, FileFault, FileTooLong, AllTooLong, IncludeDepth, TooManyFormulas, Memory}
 use Rattle.include_flat.specs.declared.walked.Walked.{Walked}
@@ -14,12 +14,15 @@ use Rattle.include_flat.specs.Walks.{Entry, Selections, WalksFile, WalksItems, k
 use Rattle.include_flat.specs.Walks.Entry.{fetched, kept, missing, stop}
 use Rattle.include_flat.specs.Walks.WalksFile.{too_deep, read}
 use Rattle.include_flat.specs.Walks.WalksBytes.{with_items}
-use Rattle.include_flat.specs.Walks.WalksItems.{cut, end, formula, inclusion, within}
+use Rattle.include_flat.specs.Walks.WalksItems.{end, formula, inclusion}
 use Rattle.include_flat.specs.Flattened.{decision_after, is_refused, kept_of}
-use Rattle.include_flat.specs.Outside.{Known, Stays, Leaves}
-use Rattle.include_flat.specs.Progress.{bytes_of, decided, Passes, Refuses, over_file, over_items, PassesWhole, PassesOver, RefusesOver, OpensTo, Opens, refused_file, Refused, IsTooMany}
-use Rattle.include_flat.proofs.Known.{where_told, wherever_told, both_told, stays_same, stays_on, leaves_on}
-use Rattle.include_flat.proofs.Decisions.{undecided_front}
+use Rattle.io_core.specs.Known.{Known, Stays}
+use Rattle.include_flat.specs.Opened.{Leaves}
+use Rattle.include_flat.specs.Progress.{bytes_of, decided, Passes, AsksAt, Refuses, over_file, over_items, PassesPart, PassesOver, RefusesOver, OpensTo, Opens, refused_file, Refused, IsTooMany}
+use Rattle.io_core.proofs.Laws.{stays_same, stays_on}
+use Rattle.include_flat.proofs.Told.{where_told, wherever_told, both_told, leaves_on}
+use Rattle.include_flat.proofs.Decisions.{decided_front, undecided_front}
+use Rattle.include_flat.proofs.SomeWalk.{some_walk_of_items}
 
 bytes_of-append : (front rest : List Entry) → bytes_of (front ++ rest) ≡ bytes_of front + bytes_of rest
 bytes_of-append [] rest = omega arith
@@ -42,7 +45,7 @@ decided_on before middle front rest p =
     undecided_front before.bytes (length before.problem) front rest p.undecided ∙
     (λ i. decision_after (sym p.bytes i) (sym count i) rest)
 
-pub passes_none : (before : Walked) → Passes before [] before
+passes_none : (before : Walked) → Passes before [] before
 passes_none before = record { undecided = refl; bytes = omega arith; problem = sym (append-nil before.problem) }
 
 passes_on : (before middle after : Walked) (front rest : List Entry) → Passes before front middle → Passes middle rest after →
@@ -54,55 +57,70 @@ passes_on before middle after front rest p q = record {
       ap (λ (fofs : List Fof). before.problem ++ fofs) (sym (kept_of-append front rest));
 }
 
--- a refusal ends a walk behind what is passed
-module _ (Front Rest : List Entry → Type 0) (before middle : Walked) (front : List Entry) (p : Passes before front middle)
-    (lead : (rest : List Entry) → Rest rest → Front (front ++ rest)) where
-  decided_behind : (file : Text) (why : FlatWhy) → (rest : List Entry) × Rest rest × (decided middle rest ≡ Some (is_refused file why)) →
-      (entries : List Entry) × Front entries × (decided before entries ≡ Some (is_refused file why))
-  decided_behind file why (rest, walk, e) = (front ++ rest, lead rest walk, decided_on before middle front rest p ∙ e)
-
-  pub refuses_on : (file : Text) (why : FlatWhy) → Refuses Rest middle file why → Refuses Front before file why
-  refuses_on file Memory h = h
-  refuses_on file FileFault (rest, entry, walk, asks, none) = (
-    front ++ rest,
-    entry,
-    subst Front (sym (append_assoc front rest (entry ∷ []))) (lead (rest ++ entry ∷ []) walk),
-    asks,
-    decided_on before middle front rest p ∙ none,
+-- a refusal ends a walk amid what is passed and what goes on
+module _ (All Part : List Entry → Type 0) (before middle : Walked) (front back : List Entry) (p : Passes before front middle)
+    (lead : (part : List Entry) → Part part → All (front ++ (part ++ back))) where
+  decided_amid : (file : Text) (why : FlatWhy) → (part : List Entry) × Part part × (decided middle part ≡ Some (is_refused file why)) →
+      (entries : List Entry) × All entries × (decided before entries ≡ Some (is_refused file why))
+  decided_amid file why (part, walk, e) = (
+    front ++ (part ++ back),
+    lead part walk,
+    decided_on before middle front (part ++ back) p ∙ decided_front middle.bytes (length middle.problem) part back (is_refused file why) e,
   )
-  refuses_on file (Lex refusal) h = decided_behind file (Lex refusal) h
-  refuses_on file (Syntax refusal) h = decided_behind file (Syntax refusal) h
-  refuses_on file FileTooLong h = decided_behind file FileTooLong h
-  refuses_on file AllTooLong h = decided_behind file AllTooLong h
-  refuses_on file IncludeDepth h = decided_behind file IncludeDepth h
-  refuses_on file TooManyFormulas h = decided_behind file TooManyFormulas h
 
--- a file at depth 17
+  asked_amid : (file : Text) → AsksAt Part middle file → AsksAt All before file
+  asked_amid file (first, entry, last, walk, asks, none) = (
+    front ++ first,
+    entry,
+    last ++ back,
+    subst All (ap (λ (es : List Entry). front ++ es) (append_assoc first (entry ∷ last) back) ∙ sym (append_assoc front first (entry ∷ (last ++ back))))
+        (lead (first ++ entry ∷ last) walk),
+    asks,
+    decided_on before middle front first p ∙ none,
+  )
+
+  refuses_amid : (file : Text) (why : FlatWhy) → Refuses Part middle file why → Refuses All before file why
+  refuses_amid file Memory h = h
+  refuses_amid file FileFault h = asked_amid file h
+  refuses_amid file (Lex refusal) h = decided_amid file (Lex refusal) h
+  refuses_amid file (Syntax refusal) h = decided_amid file (Syntax refusal) h
+  refuses_amid file FileTooLong h = decided_amid file FileTooLong h
+  refuses_amid file AllTooLong h = decided_amid file AllTooLong h
+  refuses_amid file IncludeDepth h = decided_amid file IncludeDepth h
+  refuses_amid file TooManyFormulas h = decided_amid file TooManyFormulas h
+
+-- a refusal ends a walk that is another's
+pub refuses_so : (All Part : List Entry → Type 0) (before : Walked) → ((part : List Entry) → Part part → All part) → (file : Text) (why : FlatWhy) →
+    Refuses Part before file why → Refuses All before file why
+refuses_so All Part before lead file why h =
+    refuses_amid All Part before before [] [] (passes_none before) (λ part walk. subst All (sym (append-nil part)) (lead part walk)) file why h
+
+-- a file one level too deep
 depth_refused_at : (held : Held) (left : ℕ) (selections : Selections) (name : Text) (before : Walked) → left ≡ 0 →
-    Refuses (over_file left selections name held false) before name IncludeDepth
+    Refuses (over_file left selections name held) before name IncludeDepth
 depth_refused_at held left selections name before e =
-    (stop name IncludeDepth ∷ [], subst (λ n. WalksFile held false n selections name (stop name IncludeDepth ∷ [])) (sym e) too_deep, refl)
+    (stop name IncludeDepth ∷ [], subst (λ n. WalksFile held n selections name (stop name IncludeDepth ∷ [])) (sym e) too_deep, refl)
 
 -- the items of a file are walked behind its fetch
 module _ (held : Held) (selections : Selections) (name : Text) (items : List Item) (before middle : Walked) (opens : OpensTo held name items before middle) where
-  opened : (whole : Bool) (left : ℕ) (rest : List Entry) → WalksItems held whole left selections name items rest →
-      WalksFile held whole (suc left) selections name (fetched name (length opens.bytes) ∷ [] ++ rest)
-  opened whole left rest walk = let (ts, tokens, text) = opens.read in
+  opened : (left : ℕ) (rest : List Entry) → WalksItems held left selections name items rest →
+      WalksFile held (suc left) selections name (fetched name (length opens.bytes) ∷ [] ++ rest)
+  opened left rest walk = let (ts, tokens, text) = opens.read in
       read opens.bytes opens.held_is opens.short (with_items ts items tokens text walk)
 
-  file_passes_at : (left : ℕ) (after : Walked) → PassesWhole (over_items left selections name items held) middle after →
-      PassesWhole (over_file (suc left) selections name held) before after
+  file_passes_at : (left : ℕ) (after : Walked) → PassesPart (over_items left selections name items held) middle after →
+      PassesPart (over_file (suc left) selections name held) before after
   file_passes_at left after p = record {
     entries = fetched name (length opens.bytes) ∷ [] ++ p.entries;
-    walk = opened true left p.entries p.walk;
+    walk = opened left p.entries p.walk;
     passed = passes_on before middle after (fetched name (length opens.bytes) ∷ []) p.entries opens.passed p.passed;
   }
 
-  file_refuses_at : (left : ℕ) (file : Text) (why : FlatWhy) → Refuses (over_items left selections name items held false) middle file why →
-      Refuses (over_file (suc left) selections name held false) before file why
+  file_refuses_at : (left : ℕ) (file : Text) (why : FlatWhy) → Refuses (over_items left selections name items held) middle file why →
+      Refuses (over_file (suc left) selections name held) before file why
   file_refuses_at left file why h =
-      refuses_on _ (over_items left selections name items held false) before middle (fetched name (length opens.bytes) ∷ []) opens.passed
-      (opened false left) file why h
+      refuses_amid _ (over_items left selections name items held) before middle (fetched name (length opens.bytes) ∷ []) [] opens.passed
+      (λ part walk. opened left (part ++ []) (subst (over_items left selections name items held) (sym (append-nil part)) walk)) file why h
 
 leaves_none : (files later : Known) (name : Text) (why : FlatWhy) → Leaves files later name why → Leaves files later (refused_file name why) why
 leaves_none files later name FileFault h = h
@@ -123,6 +141,7 @@ module _ (selections : Selections) (name copy : Text) (files later : Known) (bef
   depth_refused file why none stays is reason = let P : Text → FlatWhy → Type 0 = RefusesOver (over_file left selections name) files later before in
       subst (λ x. P x why) (sym (is ∙ same_name)) (subst (P name) (sym reason) (record {
         leaves = stays;
+        memory = tt;
         ends = wherever_told files.held _ (λ held. depth_refused_at held left selections name before none);
       }))
 
@@ -131,7 +150,8 @@ module _ (selections : Selections) (name copy : Text) (files later : Known) (bef
   file_refused file why reason some h is same = let P : Text → FlatWhy → Type 0 = RefusesOver (over_file left selections name) files later before in
       subst (λ x. P x why) (sym (is ∙ ap (λ (x : Text). refused_file x reason) same_name)) (subst (P (refused_file name reason)) (sym same) (record {
         leaves = leaves_none files later name reason h.leaves;
-        ends = where_told files.held _ _ (λ held r. subst (λ n. Refuses (over_file n selections name held false) before (refused_file name reason) reason)
+        memory = h.memory;
+        ends = where_told files.held _ _ (λ held r. subst (λ n. Refuses (over_file n selections name held) before (refused_file name reason) reason)
             (one_more left some) (r.anywhere (left - 1) selections)) h.ends;
       }))
 
@@ -139,35 +159,36 @@ module _ (selections : Selections) (name copy : Text) (files later : Known) (bef
     pub file_passes : (after : Walked) → PassesOver (over_items (left - 1) selections copy items) middle later between after →
         PassesOver (over_file left selections name) files later before after
     file_passes after passes = let p = rw same_name at passes in record {
-      stays = stays_on files middle later opens.stays p.stays;
-      whole = both_told files.held middle.held _ _ _ opens.stays.grows.held
-          (λ held o w. subst (λ n. PassesWhole (over_file n selections name held) before after) (one_more left some)
-          (file_passes_at held selections name items before between o (left - 1) after w)) opens.opens p.whole;
+      stays = stays_on opens.stays p.stays;
+      part = both_told files.held middle.held _ _ _ opens.stays.grows.held
+          (λ held o w. subst (λ n. PassesPart (over_file n selections name held) before after) (one_more left some)
+          (file_passes_at held selections name items before between o (left - 1) after w)) opens.opens p.part;
     }
 
     pub file_refuses : (file : Text) (why : FlatWhy) → RefusesOver (over_items (left - 1) selections copy items) middle later between file why →
         RefusesOver (over_file left selections name) files later before file why
     file_refuses file why refuses = let r = rw same_name at refuses in record {
       leaves = leaves_on files middle later file why opens.stays r.leaves;
+      memory = r.memory;
       ends = both_told files.held middle.held _ _ _ opens.stays.grows.held
-          (λ held o h. subst (λ n. Refuses (over_file n selections name held false) before file why) (one_more left some)
+          (λ held o h. subst (λ n. Refuses (over_file n selections name held) before file why) (one_more left some)
           (file_refuses_at held selections name items before between o (left - 1) file why h)) opens.opens r.ends;
     }
 
 -- want of memory, in any part of a walk
-pub memory_refused : (Part : Held → Bool → List Entry → Type 0) (files later : Known) (before : Walked) (file : Text) (why : FlatWhy) →
+pub memory_refused : (Part : Held → List Entry → Type 0) (files later : Known) (before : Walked) (file : Text) (why : FlatWhy) →
     Stays files later → why ≡ Memory → file ≡ refused_file [] Memory → RefusesOver Part files later before file why
 memory_refused Part files later before file why stays reason is =
     subst (λ x. RefusesOver Part files later before x why) (sym is) (subst (RefusesOver Part files later before []) (sym reason)
-    (record { leaves = stays; ends = wherever_told files.held _ (λ held. refl) }))
+    (record { leaves = stays; memory = refl; ends = wherever_told files.held _ (λ held. refl) }))
 
 pub ruleset files_walked = (file_refused, file_refuses, memory_refused, stays_same)
 
 -- what was passed of the items of a file
 pub record Passed (held : Held) (left : ℕ) (selections : Selections) (file : Text) (items rest : List Item) (before now : Walked) : Type 0 where
   pub entries : List Entry
-  pub lead : (whole : Bool) (more : List Entry) → WalksItems held whole left selections file rest more →
-      WalksItems held whole left selections file items (entries ++ more)
+  pub lead : (more : List Entry) → WalksItems held left selections file rest more →
+      WalksItems held left selections file items (entries ++ more)
   pub passed : Passes before entries now
 
 module _ (held : Held) (left : ℕ) (selections : Selections) (file : Text) (items : List Item) (before : Walked) where
@@ -175,42 +196,49 @@ module _ (held : Held) (left : ℕ) (selections : Selections) (file : Text) (ite
       Passes now (kept_entries file selections fof) after → Passed held left selections file items rest before after
   formula_passed fof rest now after p q = record {
     entries = p.entries ++ kept_entries file selections fof;
-    lead = λ whole more walk. subst (WalksItems held whole left selections file items) (sym (append_assoc p.entries (kept_entries file selections fof) more))
-        (p.lead whole (kept_entries file selections fof ++ more) (formula fof more walk refl));
+    lead = λ more walk. subst (WalksItems held left selections file items) (sym (append_assoc p.entries (kept_entries file selections fof) more))
+        (p.lead (kept_entries file selections fof ++ more) (formula fof more walk refl));
     passed = passes_on before now after p.entries (kept_entries file selections fof) p.passed q;
   }
 
   pub inclusion_passed : (name : Text) (only : Option (List Text)) (rest : List Item) (now after : Walked) →
       Passed held left selections file items (Include name only ∷ rest) before now →
-      PassesWhole (over_file left (with_selection only selections) name held) now after → Passed held left selections file items rest before after
+      PassesPart (over_file left (with_selection only selections) name held) now after → Passed held left selections file items rest before after
   inclusion_passed name only rest now after p q = record {
     entries = p.entries ++ q.entries;
-    lead = λ whole more walk. subst (WalksItems held whole left selections file items) (sym (append_assoc p.entries q.entries more))
-        (p.lead whole (q.entries ++ more) (inclusion name only q.entries more q.walk walk refl));
+    lead = λ more walk. subst (WalksItems held left selections file items) (sym (append_assoc p.entries q.entries more))
+        (p.lead (q.entries ++ more) (inclusion name only q.entries more q.walk walk refl));
     passed = passes_on before now after p.entries q.entries p.passed q.passed;
   }
 
   pub all_passed : (after : Walked) → Passed held left selections file items [] before after →
-      PassesWhole (over_items left selections file items held) before after
+      PassesPart (over_items left selections file items held) before after
   all_passed after p = record {
     entries = p.entries;
-    walk = subst (WalksItems held true left selections file items) (append-nil p.entries) (p.lead true [] end);
+    walk = subst (WalksItems held left selections file items) (append-nil p.entries) (p.lead [] end);
     passed = p.passed;
   }
 
   pub formula_refused : (fof : Fof) (rest : List Item) (now : Walked) → Passed held left selections file items (ItemFof fof ∷ rest) before now →
-      IsTooMany now selections fof → Refuses (over_items left selections file items held false) before file TooManyFormulas
+      IsTooMany now selections fof → Refuses (over_items left selections file items held) before file TooManyFormulas
   formula_refused fof rest now p many =
-      refuses_on _ (WalksItems held false left selections file (ItemFof fof ∷ rest)) before now p.entries p.passed (p.lead false) file TooManyFormulas
-      (kept_entries file selections fof, formula fof [] (cut refl) (sym (append-nil (kept_entries file selections fof))), many file)
+      let more = some_walk_of_items held left selections file rest in
+      let kept = kept_entries file selections fof in
+      (
+        p.entries ++ (kept ++ more.entries),
+        p.lead (kept ++ more.entries) (formula fof more.entries more.walk refl),
+        decided_on before now p.entries (kept ++ more.entries) p.passed ∙
+            decided_front now.bytes (length now.problem) kept more.entries (is_refused file TooManyFormulas) (many file),
+      )
 
   pub inclusion_refused : (name : Text) (only : Option (List Text)) (rest : List Item) (now : Walked) (refused : Text) (why : FlatWhy) →
       Passed held left selections file items (Include name only ∷ rest) before now →
-      Refuses (over_file left (with_selection only selections) name held false) now refused why →
-      Refuses (over_items left selections file items held false) before refused why
+      Refuses (over_file left (with_selection only selections) name held) now refused why →
+      Refuses (over_items left selections file items held) before refused why
   inclusion_refused name only rest now refused why p r =
-      refuses_on _ (WalksFile held false left (with_selection only selections) name) before now p.entries p.passed
-      (λ more walk. p.lead false more (within name only refl walk)) refused why r
+      let more = some_walk_of_items held left selections file rest in
+      refuses_amid _ (WalksFile held left (with_selection only selections) name) before now p.entries more.entries p.passed
+      (λ part walk. p.lead (part ++ more.entries) (inclusion name only part more.entries walk more.walk refl)) refused why r
 
 -- the walk over items so far
 pub record Underway (files now : Known) (left : ℕ) (selections : Selections) (file : Text) (items rest : List Item) (before walked : Walked) : Type 0 where
@@ -222,7 +250,7 @@ module _ (files now : Known) (left : ℕ) (selections : Selections) (file : Text
       PassesOver (over_items left selections file items) files now before walked
   underway_all rest none under = let u = rw none at under in record {
     stays = u.stays;
-    whole = where_told files.held _ _ (λ held p. all_passed held left selections file items before walked p) u.passed;
+    part = where_told files.held _ _ (λ held p. all_passed held left selections file items before walked p) u.passed;
   }
 
   module _ (all rest : List Item) (item : Item) (next : all ≡ item ∷ rest) (under : Underway files now left selections file items all before walked) where
@@ -240,6 +268,7 @@ module _ (files now : Known) (left : ℕ) (selections : Selections) (file : Text
         RefusesOver (over_items left selections file items) files now before file TooManyFormulas
     formula_too_many fof is many = let u = underway_at (ItemFof fof) is in record {
       leaves = u.stays;
+      memory = tt;
       ends = where_told files.held _ _ (λ held p. formula_refused held left selections file items before fof rest walked p many) u.passed;
     }
 
@@ -257,9 +286,9 @@ module _ (files now : Known) (left : ℕ) (selections : Selections) (file : Text
       pub inclusion_on : (after : Walked) → PassesOver (over_file left (with_selection only selections) name) now later walked after →
           Underway files later left selections file items rest before after
       inclusion_on after q = let u = underway_at (Include name only) is in record {
-        stays = stays_on files now later u.stays q.stays;
+        stays = stays_on u.stays q.stays;
         passed = both_told files.held now.held _ _ _ u.stays.grows.held
-            (λ held p w. inclusion_passed held left selections file items before name only rest walked after p w) u.passed q.whole;
+            (λ held p w. inclusion_passed held left selections file items before name only rest walked after p w) u.passed q.part;
       }
 
       pub inclusion_ends : (refused : Text) (why : FlatWhy) →
@@ -267,6 +296,7 @@ module _ (files now : Known) (left : ℕ) (selections : Selections) (file : Text
           RefusesOver (over_items left selections file items) files later before refused why
       inclusion_ends refused why r = let u = underway_at (Include name only) is in record {
         leaves = leaves_on files now later refused why u.stays r.leaves;
+        memory = r.memory;
         ends = both_told files.held now.held _ _ _ u.stays.grows.held
             (λ held p h. inclusion_refused held left selections file items before name only rest walked refused why p h) u.passed r.ends;
       }

@@ -1,11 +1,11 @@
 -- What decides a walk, and the problem that it gives where nothing does.
-use Rattle.std.specs.Prelude.{ℕ, ◌+◌, ◌≡◌, ◌⊎◌, nat_lt, nat_le, Bool, true, false, List, [], ◌∷◌, ◌++◌, Option, Some, None, if◌then◌else◌}
+use Rattle.std.specs.Prelude.{ℕ, ◌+◌, ◌≡◌, nat_lt, nat_le, List, [], ◌∷◌, Option, Some, None, if◌then◌else◌}
 use Rattle.text_core.specs.declared.limits.TheConstants.{MOST_FILES, MOST_FORMULAS, MOST_PROBLEM_BYTES}
 use Rattle.text_core.specs.Names.{Text}
 use Rattle.logic_core.specs.declared.problem.Fof.{Fof}
-use Rattle.io_core.specs.Causes.{Held}
+use Rattle.io_core.specs.Held.{Held}
 use Rattle.include_flat.specs.declared.refusal.FlatWhy.{FlatWhy}
-use Rattle.include_flat.specs.declared.refusal.FlatWhy.TheVariants.{FileFault, FileTooLong, AllTooLong, TooManyFormulas, Memory}
+use Rattle.include_flat.specs.declared.refusal.FlatWhy.TheVariants.{AllTooLong, TooManyFormulas}
 use Rattle.include_flat.specs.Walks.{Entry, WalksFile}
 use Rattle.include_flat.specs.Walks.Entry.{fetched, kept, missing, stop}
 
@@ -33,37 +33,11 @@ kept_of [] = []
 kept_of (kept file fof ∷ entries) = fof ∷ kept_of entries
 kept_of (_ ∷ entries) = kept_of entries
 
--- the walk from a first file on, whole or up to some entry
-abbrev pub Walks : Held → Bool → Text → List Entry → Type 0
-Walks held whole name entries = WalksFile held whole MOST_FILES [] name entries
+-- the walk from a first file on
+abbrev pub Walks : Held → Text → List Entry → Type 0
+Walks held name entries = WalksFile held MOST_FILES [] name entries
 
 -- nothing decides the walk, and these are its formulas
 abbrev pub IsFlat : Held → Text → List Fof → Type 0
-IsFlat held name problem = (entries : List Entry) × Walks held true name entries × (decision entries ≡ None) × (problem ≡ kept_of entries)
-
--- the walk is decided by a refusal of this file
-abbrev pub IsFlatRefused : Held → Text → Text → FlatWhy → Type 0
-IsFlatRefused held name file why = (entries : List Entry) × Walks held false name entries × (decision entries ≡ Some (is_refused file why))
-
--- the entry comes from asking for this file
-abbrev pub AsksFor : Text → Entry → Type 0
-AsksFor file (fetched asked n) = asked ≡ file
-AsksFor file (missing asked) = asked ≡ file
-AsksFor file (stop asked FileTooLong) = asked ≡ file
-AsksFor file entry = ⊥
-
--- the walk asks for this file, and nothing decides it before
-abbrev pub IsAskedFor : Held → Text → Text → Type 0
-IsAskedFor held name file = (entries : List Entry) × (entry : Entry) × Walks held false name (entries ++ entry ∷ []) × AsksFor file entry ×
-    (decision entries ≡ None)
-
--- a refusal of the files is the one that decides the walk; a fault of a fetch is told of a file that was asked for; want of memory
--- may come anywhere
-abbrev pub IsFlatRefusal : Held → Text → Text → FlatWhy → Type 0
-IsFlatRefusal held name file Memory = file ≡ []
-IsFlatRefusal held name file FileFault = IsAskedFor held name file
-IsFlatRefusal held name file why = IsFlatRefused held name file why
-
--- the outside failed, or memory ran out
-abbrev pub IsOutside : FlatWhy → Type 0
-IsOutside why = (why ≡ FileFault) ⊎ (why ≡ Memory)
+IsFlat held name problem = (entries : List Entry) × Walks held name entries ×
+    (decision entries ≡ None) × (problem ≡ kept_of entries)

@@ -1,5 +1,5 @@
 pub mod Walks
 pub mod Flattened
-pub mod Outside
+pub mod Refusals
 pub mod Opened
 pub mod Progress

@@ -1,19 +1,20 @@
 -- How a part of a walk goes on from what was walked before.
-use Rattle.std.specs.Prelude.{ℕ, suc, ◌+◌, ◌≡◌, ◌≤◌, Bool, true, false, List, [], ◌∷◌, ◌++◌, length, Option, Some, None, IfSome}
+use Rattle.std.specs.Prelude.{ℕ, suc, ◌+◌, ◌≡◌, ◌≤◌, List, [], ◌∷◌, ◌++◌, length, Option, Some, None, IfSome}
 use Rattle.std.specs.FinMap as finite
 use Rattle.text_core.specs.declared.limits.TheConstants.{MOST_FILE_BYTES}
 use Rattle.text_core.specs.Names.{Text}
 use Rattle.logic_core.specs.declared.problem.Fof.{Fof}
 use Rattle.logic_core.specs.declared.problem.Item.{Item}
-use Rattle.io_core.specs.Causes.{Held}
+use Rattle.io_core.specs.Held.{Held}
+use Rattle.io_core.specs.Known.{Known, Stays}
 use Rattle.include_flat.specs.declared.refusal.FlatWhy.{FlatWhy}
 use Rattle.include_flat.specs.declared.refusal.FlatWhy.TheVariants.{FileFault, TooManyFormulas, Memory}
 use Rattle.include_flat.specs.declared.walked.Walked.{Walked}
 use Rattle.include_flat.specs.Walks.{Entry, Selections, WalksFile, WalksItems, is_selected, kept_entries}
 use Rattle.include_flat.specs.Walks.Entry.{fetched}
-use Rattle.include_flat.specs.Flattened.{Decision, decision_after, is_refused, kept_of, AsksFor}
-use Rattle.include_flat.specs.Outside.{Known, Stays, Leaves}
-use Rattle.include_flat.specs.Opened.{AreBytesOf}
+use Rattle.include_flat.specs.Flattened.{Decision, decision_after, is_refused, kept_of}
+use Rattle.include_flat.specs.Refusals.{AsksFor, TellsMemoryAlone}
+use Rattle.include_flat.specs.Opened.{AreBytesOf, Leaves}
 
 -- how many bytes are fetched
 abbrev pub bytes_of : List Entry → ℕ
@@ -31,34 +32,43 @@ pub record Passes (before : Walked) (entries : List Entry) (after : Walked) : Ty
   pub bytes : after.bytes ≡ before.bytes + bytes_of entries
   pub problem : after.problem ≡ before.problem ++ kept_of entries
 
--- a refusal ends a walk that has these fronts
-abbrev pub Refuses : (List Entry → Type 0) → Walked → Text → FlatWhy → Type 0
-Refuses Front before file Memory = file ≡ []
-Refuses Front before file FileFault =
-    (entries : List Entry) × (entry : Entry) × Front (entries ++ entry ∷ []) × AsksFor file entry × (decided before entries ≡ None)
-Refuses Front before file why = (entries : List Entry) × Front entries × (decided before entries ≡ Some (is_refused file why))
-
--- the entries of a part of a walk, by what is held and whether they are looked at whole
-abbrev pub over_file : ℕ → Selections → Text → Held → Bool → List Entry → Type 0
-over_file left selections file held whole entries = WalksFile held whole left selections file entries
-
-abbrev pub over_items : ℕ → Selections → Text → List Item → Held → Bool → List Entry → Type 0
-over_items left selections file items held whole entries = WalksItems held whole left selections file items entries
-
--- a part of a walk is passed whole
-pub record PassesWhole (Part : Bool → List Entry → Type 0) (before after : Walked) : Type 0 where
-  pub entries : List Entry
-  pub walk : Part true entries
-  pub passed : Passes before entries after
-
-pub record PassesOver (Part : Held → Bool → List Entry → Type 0) (files later : Known) (before after : Walked) : Type 0 where
-  pub stays : Stays files later
-  pub whole : IfSome files.held (λ held. PassesWhole (Part held) before after)
+-- a part of a walk asks for a file, and nothing decides it before
+abbrev pub AsksAt : (List Entry → Type 0) → Walked → Text → Type 0
+AsksAt Part before file = (front : List Entry) × (entry : Entry) × (back : List Entry) ×
+    Part (front ++ entry ∷ back) × AsksFor file entry × (decided before front ≡ None)
 
 -- a refusal ends a part of a walk
-pub record RefusesOver (Part : Held → Bool → List Entry → Type 0) (files later : Known) (before : Walked) (file : Text) (why : FlatWhy) : Type 0 where
+abbrev pub Refuses : (List Entry → Type 0) → Walked → Text → FlatWhy → Type 0
+Refuses Part before file Memory = file ≡ []
+Refuses Part before file FileFault = AsksAt Part before file
+Refuses Part before file why = (entries : List Entry) × Part entries ×
+    (decided before entries ≡ Some (is_refused file why))
+
+-- the entries of a part of a walk, by what is held
+abbrev pub over_file : ℕ → Selections → Text → Held → List Entry → Type 0
+over_file left selections file held entries = WalksFile held left selections file entries
+
+abbrev pub over_items : ℕ → Selections → Text → List Item → Held → List Entry → Type 0
+over_items left selections file items held entries = WalksItems held left selections file items entries
+
+-- a part of a walk is passed
+pub record PassesPart (Part : List Entry → Type 0) (before after : Walked) : Type 0 where
+  pub entries : List Entry
+  pub walk : Part entries
+  pub passed : Passes before entries after
+
+-- a part of a walk is passed, and what that leaves of the files
+pub record PassesOver (Part : Held → List Entry → Type 0) (files later : Known)
+    (before after : Walked) : Type 0 where
+  pub stays : Stays files later
+  pub part : IfSome files.held (λ held. PassesPart (Part held) before after)
+
+-- a refusal ends a part of a walk, and what that leaves of the files
+pub record RefusesOver (Part : Held → List Entry → Type 0) (files later : Known)
+    (before : Walked) (file : Text) (why : FlatWhy) : Type 0 where
   pub leaves : Leaves files later file why
-  pub ends : IfSome files.held (λ held. Refuses (Part held false) before file why)
+  pub memory : TellsMemoryAlone file why
+  pub ends : IfSome files.held (λ held. Refuses (Part held) before file why)
 
 -- a file is fetched, and its bytes are a text of these items
 pub record OpensTo (held : Held) (file : Text) (items : List Item) (before after : Walked) : Type 0 where
@@ -77,15 +87,17 @@ abbrev pub refused_file : Text → FlatWhy → Text
 refused_file file Memory = []
 refused_file file why = file
 
--- a file is refused, at whatever place of a walk it stands
+-- a file is refused, wherever in a walk it is
 pub record IsRefusedAt (held : Held) (file : Text) (before : Walked) (why : FlatWhy) : Type 0 where
-  pub anywhere : (left : ℕ) (selections : Selections) → Refuses (WalksFile held false (suc left) selections file) before (refused_file file why) why
+  pub anywhere : (left : ℕ) (selections : Selections) →
+      Refuses (WalksFile held (suc left) selections file) before (refused_file file why) why
 
 pub record Refused (files later : Known) (file : Text) (before : Walked) (why : FlatWhy) : Type 0 where
   pub leaves : Leaves files later file why
+  pub memory : TellsMemoryAlone (refused_file file why) why
   pub ends : IfSome files.held (λ held. IsRefusedAt held file before why)
 
--- a formula is one too many, in whatever file it stands
+-- a formula is one too many, in whatever file it is
 abbrev pub IsTooMany : Walked → Selections → Fof → Type 0
 IsTooMany before selections fof =
     (file : Text) → decided before (kept_entries file selections fof) ≡ Some (is_refused file TooManyFormulas)

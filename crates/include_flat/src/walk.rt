@@ -1,13 +1,13 @@
 ghost use Rattle.std.specs.Prelude.{◌≡◌, ◌≤◌, ◌⊎◌, List as Lst, IfSome, IfOk, IfErr, OnOk, MatchResult};
 ghost use Rattle.text_core.specs.Names.{Text};
 ghost use Rattle.logic_core.specs.declared.problem.Fof.{Fof as Formula};
-ghost use Rattle.io_core.specs.Causes.{Rose};
+ghost use Rattle.io_core.specs.Known.{Stays, Fails};
 ghost use Rattle.include_flat.specs.declared.refusal.FlatWhy.{FlatWhy as Why};
 ghost use Rattle.include_flat.specs.declared.refusal.FlatWhy.TheVariants as whys;
-ghost use Rattle.logic_core.specs.Problems.{FofMayStand};
-ghost use Rattle.include_flat.specs.Flattened.{IsFlat, IsFlatRefused, IsFlatRefusal, IsOutside};
+ghost use Rattle.logic_core.specs.Allowed.{FofIsAllowed};
+ghost use Rattle.include_flat.specs.Flattened.{IsFlat};
+ghost use Rattle.include_flat.specs.Refusals.{IsFlatRefused, IsFlatRefusal, IsOutside, TellsMemoryAlone};
 ghost use Rattle.include_flat.specs.Walks.{with_selection, kept_entries};
-ghost use Rattle.include_flat.specs.Outside.{known};
 ghost use Rattle.include_flat.specs.Progress.{selections_of, over_file, over_items, Passes, IsTooMany, PassesOver, RefusesOver};
 
 use crate::reading::fetched_items;
@@ -26,20 +26,21 @@ use text_core::MOST_FILES;
 /// bytes, one with which all fetched bytes are more than 8,388,608, one at depth 17, one with a 65,537th formula to keep; and one that
 /// has no tokens, or whose tokens are no text of items. `Memory` is want of memory. Source: the TPTP syntax, `include`.
 pub fn flatten<F: Files>(alloc: Global, files: &mut F, name: &[u8]) -> Result<Problem, FlatRefusal>
-    ensures flat { IfSome (F.held files.old) (λ held. IfOk result (λ problem. IsFlat held name.now problem)) }
-    ensures refused { IfSome (F.held files.old) (λ held. IfErr result (λ refusal. IsFlatRefusal held name.now refusal.file refusal.why)) }
+    ensures flat { IfSome (F.known files.old).held (λ held. IfOk result (IsFlat held name.now)) }
+    ensures refused { IfSome (F.known files.old).held (λ held.
+        IfErr result (λ refusal. IsFlatRefusal held name.now refusal.file refusal.why)) }
     // Where nothing decides the walk, the answer is its formulas, unless the outside fails or memory runs out.
-    ensures found { IfSome (F.held files.old) (λ held. (problem : Lst Formula) → IsFlat held name.now problem
+    ensures found { IfSome (F.known files.old).held (λ held. (problem : Lst Formula) → IsFlat held name.now problem
         → MatchResult result (λ read. read ≡ problem) (λ refusal. IsOutside refusal.why)) }
     // Where a refusal decides the walk, the answer is that one, unless the outside fails or memory runs out.
-    ensures told { IfSome (F.held files.old) (λ held. (file : Text) (why : Why) → IsFlatRefused held name.now file why
-        → MatchResult result (λ read. ⊥) (λ refusal. IsOutside refusal.why ⊎ ((refusal.file ≡ file) × (refusal.why ≡ why)))) }
-    ensures fault { IfErr result (λ refusal. refusal.why ≡ whys.FileFault → Rose (F.faults files.old) (F.faults files.new)) }
-    ensures blames { IfSome (F.blamed files.new) (λ blamed. IfErr result (λ refusal. refusal.why ≡ whys.FileFault → blamed ≡ refusal.file)) }
-    ensures blamed_stays { (IfErr result (λ refusal. refusal.why ≡ whys.FileFault → ⊥)) → F.blamed files.new ≡ F.blamed files.old }
-    ensures held_stays { F.held files.new ≡ F.held files.old }
-    ensures faults_grow { F.faults files.old ≤ F.faults files.new }
-    ensures given_grows { F.given files.old ≤ F.given files.new }
+    ensures told { IfSome (F.known files.old).held (λ held. (file : Text) (why : Why) → IsFlatRefused held name.now file why
+        → MatchResult result (λ read. ⊥)
+        (λ refusal. IsOutside refusal.why ⊎ ((refusal.file ≡ file) × (refusal.why ≡ why)))) }
+    ensures memory { IfErr result (λ refusal. TellsMemoryAlone refusal.file refusal.why) }
+    ensures failed { IfErr result (λ refusal.
+        refusal.why ≡ whys.FileFault → Fails (F.known files.old) (F.known files.new) refusal.file) }
+    ensures stays { (IfErr result (λ refusal. refusal.why ≡ whys.FileFault → ⊥))
+        → Stays (F.known files.old) (F.known files.new) }
 {
     let mut walked = Walked::new(alloc);
     let selected = Selected::all();
@@ -60,8 +61,10 @@ fn walk_file<F: Files>(
     selected: &Selected,
     left: u32,
 ) -> Result<(), FlatRefusal>
-    ensures passes { IfOk result (λ done. PassesOver (over_file left (selections_of selected.now) name.now) (known (F.held files.old) (F.faults files.old) (F.given files.old) (F.blamed files.old)) (known (F.held files.new) (F.faults files.new) (F.given files.new) (F.blamed files.new)) walked.old walked.new) }
-    ensures refused { IfErr result (λ refusal. RefusesOver (over_file left (selections_of selected.now) name.now) (known (F.held files.old) (F.faults files.old) (F.given files.old) (F.blamed files.old)) (known (F.held files.new) (F.faults files.new) (F.given files.new) (F.blamed files.new)) walked.old refusal.file refusal.why) }
+    ensures passes { IfOk result (λ done. PassesOver (over_file left (selections_of selected.now) name.now)
+        (F.known files.old) (F.known files.new) walked.old walked.new) }
+    ensures refused { IfErr result (λ refusal. RefusesOver (over_file left (selections_of selected.now) name.now)
+        (F.known files.old) (F.known files.new) walked.old refusal.file refusal.why) }
 {
     let file = match Bytes::from_slice(alloc, name) {
         Ok(file) => file,
@@ -87,8 +90,10 @@ fn walk_items<F: Files>(
     selected: &Selected,
     left: u32,
 ) -> Result<(), FlatRefusal>
-    ensures passes { IfOk result (λ done. PassesOver (over_items left (selections_of selected.now) file items) (known (F.held files.old) (F.faults files.old) (F.given files.old) (F.blamed files.old)) (known (F.held files.new) (F.faults files.new) (F.given files.new) (F.blamed files.new)) walked.old walked.new) }
-    ensures refused { IfErr result (λ refusal. RefusesOver (over_items left (selections_of selected.now) file items) (known (F.held files.old) (F.faults files.old) (F.given files.old) (F.blamed files.old)) (known (F.held files.new) (F.faults files.new) (F.given files.new) (F.blamed files.new)) walked.old refusal.file refusal.why) }
+    ensures passes { IfOk result (λ done. PassesOver (over_items left (selections_of selected.now) file items)
+        (F.known files.old) (F.known files.new) walked.old walked.new) }
+    ensures refused { IfErr result (λ refusal. RefusesOver (over_items left (selections_of selected.now) file items)
+        (F.known files.old) (F.known files.new) walked.old refusal.file refusal.why) }
 {
     for item in items.into_list().into_vec() {
         match item {
@@ -116,8 +121,10 @@ fn walk_inclusion<F: Files>(
     selected: &Selected,
     left: u32,
 ) -> Result<(), FlatRefusal>
-    ensures passes { IfOk result (λ done. PassesOver (over_file left (with_selection only (selections_of selected.now)) name) (known (F.held files.old) (F.faults files.old) (F.given files.old) (F.blamed files.old)) (known (F.held files.new) (F.faults files.new) (F.given files.new) (F.blamed files.new)) walked.old walked.new) }
-    ensures refused { IfErr result (λ refusal. RefusesOver (over_file left (with_selection only (selections_of selected.now)) name) (known (F.held files.old) (F.faults files.old) (F.given files.old) (F.blamed files.old)) (known (F.held files.new) (F.faults files.new) (F.given files.new) (F.blamed files.new)) walked.old refusal.file refusal.why) }
+    ensures passes { IfOk result (λ done. PassesOver (over_file left (with_selection only (selections_of selected.now)) name)
+        (F.known files.old) (F.known files.new) walked.old walked.new) }
+    ensures refused { IfErr result (λ refusal. RefusesOver (over_file left (with_selection only (selections_of selected.now)) name)
+        (F.known files.old) (F.known files.new) walked.old refusal.file refusal.why) }
 {
     match only {
         None => walk_file(alloc, files, walked, name.bytes(), selected, left),
@@ -130,7 +137,7 @@ fn walk_inclusion<F: Files>(
 
 /// Keeps a formula whose name is in every selection.
 fn keep_selected(walked: &mut Walked, selected: &Selected, fof: Fof) -> Result<(), FlatWhy>
-    requires { FofMayStand fof }
+    requires { FofIsAllowed fof }
     ensures passes { OnOk result ((file : Text) → Passes walked.old (kept_entries file (selections_of selected.now) fof) walked.new) }
     ensures refused { IfErr result (λ why. (why ≡ whys.Memory) ⊎ ((why ≡ whys.TooManyFormulas) × IsTooMany walked.old (selections_of selected.now) fof)) }
 {

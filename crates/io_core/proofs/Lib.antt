@@ -1,1 +1,3 @@
+pub mod Laws
+pub mod Appended
 pub mod Lookups

@@ -2,7 +2,7 @@
 use Rattle.std.specs.Prelude.{ℕ, List, [], ◌∷◌}
 use Rattle.std.specs.Global.{Vec}
 use Rattle.std.specs.FinMap as finite
-use Rattle.io_core.specs.Causes.{Held}
+use Rattle.io_core.specs.Held.{Held}
 
 -- the texts of the entries, in their order
 abbrev pub texts_of : List (Vec ℕ × Vec ℕ) → List (List ℕ × List ℕ)

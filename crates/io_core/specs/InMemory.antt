@@ -6,7 +6,10 @@ use Rattle.std.specs.Coded.{Coded, code_by, coded×, coded_ℕ, coded_list}
 use Rattle.std.specs.FinMap as finite
 use Rattle.std.proofs.Common.{refl}
 use Rattle.text_core.specs.Names.{Text}
-use Rattle.io_core.specs.Causes.{Held, raised}
+use Rattle.io_core.specs.Held.{Held}
+use Rattle.io_core.specs.Causes.{raised}
+use Rattle.io_core.specs.Known.{Known}
+use Rattle.io_core.specs.Stream.{Stream}
 
 -- files in memory
 pub record StoredFiles : Type 0 where
@@ -32,6 +35,10 @@ stored_files_code =
     (λ t. record { held = t.0; faults = t.1.0; given = t.1.1.0; blamed = t.1.1.1.0; failing = t.1.1.1.1.0; fetches = t.1.1.1.1.1 })
     (λ _. refl)
 
+-- stored files are known whole
+abbrev pub stored_known : StoredFiles → Known
+stored_known files = record { held = Some files.held; blamed = Some files.blamed; faults = files.faults; given = files.given }
+
 -- what the next fetch finds under a name: nothing where it is to fail, and else the held bytes
 abbrev pub found : StoredFiles → Text → Option (List ℕ)
 found files name = if list_any (λ n. n == files.fetches) files.failing then None else finite.get files.held name
@@ -53,6 +60,10 @@ pub record StoredSink : Type 0 where
   pub failing : List (ℕ × ℕ)
   -- how many puts there were of a piece that was not empty
   pub puts : ℕ
+
+-- a stored sink is known whole
+abbrev pub stored_stream : StoredSink → Stream
+stored_stream sink = record { contents = Some sink.contents; faults = sink.faults }
 
 -- how many bytes the next put appends at most where it is to fail; of several entries the first counts
 abbrev pub listed : StoredSink → Option ℕ

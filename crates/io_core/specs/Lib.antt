@@ -1,3 +1,7 @@
+pub mod Held
 pub mod Causes
+pub mod Known
+pub mod Stream
 pub mod Entries
 pub mod InMemory
+pub mod Adapters

@@ -1,9 +1,8 @@
-ghost use Rattle.std.specs.Prelude.{◌≡◌, ◌≤◌, ◌↔◌, ℕ, List, Option, IsTrue, is_some, IfSome, OnOk, OnErr, IsErrOf};
-ghost use Rattle.text_core.specs.Names.{Text};
-ghost use Rattle.io_core.specs.Causes.{Held, Rose, RoseAbove, AppendsAtMost, AppendsHeld, IsWithin, IsLong};
+ghost use Rattle.std.specs.Prelude.{◌≡◌, IfOk, OnOk, OnErr, IsErrOf, is_some};
+ghost use Rattle.io_core.specs.Known.{Known, Stays, Fails, Holds, Fetches, IsTooLong};
 
-use text_core::{Bytes, Memory};
 use std::alloc::Global;
+use text_core::{Bytes, MOST_FILE_BYTES, Memory};
 
 /// Why a fetch gave no bytes.
 #[derive(Debug, Drop)]
@@ -28,17 +27,10 @@ impl From<Memory> for FetchFault {
 
 /// A source of whole files.
 pub trait Files {
-    /// The bytes of each name, where they are known.
-    ghost held: { Self → Option Held };
-
-    /// How many faults of the outside there were; it never falls, and stays at 18,446,744,073,709,551,615.
-    ghost faults: { Self → ℕ };
-
-    /// How many bytes the outside handed over; it never falls, and stays at 18,446,744,073,709,551,615.
-    ghost given: { Self → ℕ };
-
-    /// The name of the last fetch that failed; it is told exactly where `held` is.
-    ghost blamed: { Self → Option Text };
+    /// What is known of the files: what they hold and the last name that they blame, where they tell it, and the
+    /// counts of their faults and of the bytes that they handed over. No count ever falls, and each stays at its
+    /// greatest value.
+    ghost known: { Self → Known };
 
     /// Appends the bytes of the file with this name to `into`, if they are at most `most`. After each fault
     /// `into` is as before. `Failed` comes only where the count of faults rose, `TooLong` only where more than
@@ -50,19 +42,26 @@ pub trait Files {
         most: u32,
         into: &mut Bytes,
     ) -> Result<(), FetchFault>
-        ensures appended { OnOk result (AppendsAtMost most into.old into.new) }
-        ensures exact { IfSome (held self.old) (λ files. OnOk result (AppendsHeld files name.now into.old into.new)) }
-        ensures within { IfSome (held self.old) (λ files. OnOk result (IsWithin files name.now most)) }
-        ensures failed { IsErrOf result FetchFault.Failed → Rose (faults self.old) (faults self.new) }
-        ensures blames { IfSome (blamed self.new) (λ blamed. IsErrOf result FetchFault.Failed → blamed ≡ name.now) }
-        ensures too_long { IsErrOf result FetchFault.TooLong → RoseAbove most (given self.old) (given self.new) }
-        ensures longer { IfSome (held self.old) (λ files. IsErrOf result FetchFault.TooLong → IsLong files name.now most) }
-        ensures into_stays { OnErr result (into.new ≡ into.old) }
-        ensures held_stays { held self.new ≡ held self.old }
-        ensures faults_grow { faults self.old ≤ faults self.new }
-        ensures given_grows { given self.old ≤ given self.new }
-        ensures blamed_stays { ¬ (IsErrOf result FetchFault.Failed) → blamed self.new ≡ blamed self.old };
+        ensures fetched { OnOk result (Fetches most name.now (known self.old) into.old into.new) }
+        ensures failed { IsErrOf result FetchFault.Failed → Fails (known self.old) (known self.new) name.now }
+        ensures too_long { IsErrOf result FetchFault.TooLong → IsTooLong most name.now (known self.old) (known self.new) }
+        ensures stays { ¬ (IsErrOf result FetchFault.Failed) → Stays (known self.old) (known self.new) }
+        ensures into_stays { OnErr result (into.new ≡ into.old) };
 
-    /// `blamed` is told exactly where `held` is told.
-    ghost told: { (files : Self) → is_some (blamed files) ≡ is_some (held files) };
+    /// The blamed name is told exactly where it is told what is held.
+    ghost told: { (files : Self) → is_some (known files).blamed ≡ is_some (known files).held };
+}
+
+/// The bytes of the file with this name, at most `MOST_FILE_BYTES`. `Failed` comes only where the count of
+/// faults rose, `TooLong` only where more bytes were handed over, and `Memory` is want of memory.
+pub fn fetch_whole<F: Files>(alloc: Global, files: &mut F, name: &[u8]) -> Result<Bytes, FetchFault>
+    ensures holds { IfOk result (λ bytes. Holds (F.known files.old) name.now bytes MOST_FILE_BYTES) }
+    ensures failed { IsErrOf result FetchFault.Failed → Fails (F.known files.old) (F.known files.new) name.now }
+    ensures too_long { IsErrOf result FetchFault.TooLong
+        → IsTooLong MOST_FILE_BYTES name.now (F.known files.old) (F.known files.new) }
+    ensures stays { ¬ (IsErrOf result FetchFault.Failed) → Stays (F.known files.old) (F.known files.new) }
+{
+    let mut bytes = Bytes::new(alloc);
+    files.fetch(alloc, name, MOST_FILE_BYTES, &mut bytes)?;
+    Ok(bytes)
 }

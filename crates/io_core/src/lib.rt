@@ -13,7 +13,7 @@ mod stream_sink;
 #[cfg(test)]
 mod tests;
 
-pub use files::{FetchFault, Files};
+pub use files::{FetchFault, Files, fetch_whole};
 pub use memory_files::MemoryFiles;
 pub use memory_sink::MemorySink;
 pub use real_files::RealFiles;

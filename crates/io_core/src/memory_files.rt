@@ -1,16 +1,17 @@
 ghost use Rattle.std.specs.Prelude.{◌≡◌, ◌≢◌, ◌≤◌, ◌<◌, ◌++◌, ◌∷◌, [], length, Some, None, if◌then◌else◌, IsSome, IfErr, OnOk, OnErr, IsErrOf, refl};
 ghost use Rattle.std.specs.Option.{option_copied};
 ghost use Rattle.std.specs.FinMap as finite;
-ghost use Rattle.io_core.specs.Causes.{RoseAbove, AppendsAtMost, AppendsHeld, IsWithin, IsLong, raised};
+ghost use Rattle.io_core.specs.Causes.{raised};
 ghost use Rattle.io_core.specs.Entries.{held_by};
-ghost use Rattle.io_core.specs.InMemory.{found, given_after};
+ghost use Rattle.io_core.specs.InMemory.{found, given_after, stored_known};
+ghost use Rattle.io_core.specs.Known.{Fails, Fetches, IsTooLong, Stays};
 
 use crate::count::raised_by;
 use crate::files::{FetchFault, Files};
-use text_core::{Bytes, Memory};
 use std::alloc::Global;
 use std::collections::HashMap;
 use std::marker::Model;
+use text_core::{Bytes, Memory};
 
 /// Files in memory. All of them are known, and chosen fetches can be made to fail.
 #[derive(Drop)]
@@ -85,13 +86,7 @@ impl MemoryFiles {
 }
 
 impl Files for MemoryFiles {
-    ghost held = { λ m. Some m.held };
-
-    ghost faults = { λ m. m.faults };
-
-    ghost given = { λ m. m.given };
-
-    ghost blamed = { λ m. Some m.blamed };
+    ghost known = { stored_known };
 
     /// As `Files` says. It answers `Failed` exactly at a listed fetch and at a name that is not held, where
     /// there is memory to keep the name; then alone the count of faults rises, by 1. Each other fetch raises
@@ -103,22 +98,19 @@ impl Files for MemoryFiles {
         most: u32,
         into: &mut Bytes,
     ) -> Result<(), FetchFault>
-        ensures appended { OnOk result (AppendsAtMost most into.old into.new) }
-        ensures exact { OnOk result (AppendsHeld self.old.held name.now into.old into.new) }
-        ensures within { OnOk result (IsWithin self.old.held name.now most) }
-        ensures failed { IsErrOf result FetchFault.Failed → self.new.faults ≡ raised self.old.faults 1 }
-        ensures blames { IsErrOf result FetchFault.Failed → self.new.blamed ≡ name.now }
-        ensures too_long { IsErrOf result FetchFault.TooLong → RoseAbove most self.old.given self.new.given }
-        ensures longer { IsErrOf result FetchFault.TooLong → IsLong self.old.held name.now most }
+        ensures fetched { OnOk result (Fetches most name.now (stored_known self.old) into.old into.new) }
+        ensures failed { IsErrOf result FetchFault.Failed
+            → Fails (stored_known self.old) (stored_known self.new) name.now }
+        ensures too_long { IsErrOf result FetchFault.TooLong
+            → IsTooLong most name.now (stored_known self.old) (stored_known self.new) }
+        ensures stays { ¬ (IsErrOf result FetchFault.Failed) → Stays (stored_known self.old) (stored_known self.new) }
         ensures into_stays { OnErr result (into.new ≡ into.old) }
-        ensures held_stays { self.new.held ≡ self.old.held }
+        ensures faults_rise { IsErrOf result FetchFault.Failed → self.new.faults ≡ raised self.old.faults 1 }
         ensures faults_stay { ¬ (IsErrOf result FetchFault.Failed) → self.new.faults ≡ self.old.faults }
-        ensures faults_grow { self.old.faults ≤ self.new.faults }
-        ensures given_grows { self.old.given ≤ self.new.given }
         ensures handed { self.new.given ≡ given_after self.old (found self.old name.now) }
-        ensures blamed_stays { ¬ (IsErrOf result FetchFault.Failed) → self.new.blamed ≡ self.old.blamed }
         ensures fails { IsErrOf result FetchFault.Failed → found self.old name.now ≡ None }
-        ensures finds { ¬ (IsErrOf result FetchFault.Failed) → ¬ (IsErrOf result FetchFault.Memory) → IsSome (found self.old name.now) }
+        ensures finds { ¬ (IsErrOf result FetchFault.Failed) → ¬ (IsErrOf result FetchFault.Memory)
+            → IsSome (found self.old name.now) }
         ensures counted { self.new.fetches ≡ raised self.old.fetches 1 }
         ensures listed { self.new.failing ≡ self.old.failing }
     {

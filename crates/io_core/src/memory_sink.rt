@@ -1,13 +1,14 @@
 ghost use Rattle.std.specs.Prelude.{◌≡◌, ◌≢◌, ◌≤◌, ◌++◌, ◌∷◌, [], ◌==◌, Some, false, IsTrue, IsOk, IfOk, OnOk, OnErr, take, find};
 ghost use Rattle.std.specs.Option.{option_map};
-ghost use Rattle.io_core.specs.Causes.{Rose, AppendsPrefix, raised};
-ghost use Rattle.io_core.specs.InMemory.{taken, put_fails, puts_after};
+ghost use Rattle.io_core.specs.Causes.{raised};
+ghost use Rattle.io_core.specs.InMemory.{taken, put_fails, puts_after, stored_stream};
+ghost use Rattle.io_core.specs.Stream.{Breaks, Puts};
 
 use crate::count::raised_by;
 use crate::sink::{Sink, SinkFault};
-use text_core::Memory;
 use std::alloc::Global;
 use std::marker::Model;
+use text_core::Memory;
 
 /// A sink in memory, with room for a number of bytes. Its contents are known, and chosen puts can be made to
 /// fail.
@@ -72,21 +73,20 @@ impl MemorySink {
 }
 
 impl Sink for MemorySink {
-    ghost contents = { λ s. Some s.contents };
-
-    ghost faults = { λ s. s.faults };
+    ghost stream = { stored_stream };
 
     /// As `Sink` says. It fails exactly at a listed put and where the piece passes the room; then alone the
     /// count of faults rises, by 1. What it appends is the part that fits, and of a listed put no more than is
     /// listed.
     fn put(&mut self, piece: &[u8]) -> Result<(), SinkFault>
+        ensures puts { OnOk result (Puts (stored_stream self.old) (stored_stream self.new) piece.now) }
+        ensures breaks { OnErr result (Breaks (stored_stream self.old) (stored_stream self.new) piece.now) }
         ensures appended { OnOk result (self.new.contents ≡ self.old.contents ++ piece.now) }
         ensures prefix { self.new.contents ≡ self.old.contents ++ take (taken self.old piece.now) piece.now }
         ensures fails { OnErr result (IsTrue (put_fails self.old piece.now)) }
         ensures passes { OnOk result (piece.now ≢ [] → put_fails self.old piece.now ≡ false) }
         ensures cause { OnErr result (self.new.faults ≡ raised self.old.faults 1) }
         ensures faults_stay { OnOk result (self.new.faults ≡ self.old.faults) }
-        ensures faults_grow { self.old.faults ≤ self.new.faults }
         ensures empty { piece.now ≡ [] → IsOk result }
         ensures counted { self.new.puts ≡ puts_after self.old piece.now }
         ensures room { self.new.room ≡ self.old.room }

@@ -1,14 +1,16 @@
-ghost use Rattle.std.specs.Prelude.{◌≡◌, ◌-◌, ◌≤◌, None, IfSome, IfOk, OnOk, OnErr, IsErrOf, IsUtf8, length, vec_len, refl};
-ghost use Rattle.io_core.specs.Causes.{raised, Rose, RoseAbove, AppendsAtMost};
+ghost use Rattle.std.specs.Prelude.{◌≡◌, ◌+◌, ◌-◌, ◌≤◌, ◌++◌, IfSome, IfOk, OnOk, OnErr, IsErrOf, IsUtf8, length, take, vec_len, refl};
+ghost use Rattle.io_core.specs.Adapters.{counts_known};
+ghost use Rattle.io_core.specs.Causes.{raised, RoseAbove};
+ghost use Rattle.io_core.specs.Known.{Fails, Fetches, IsTooLong, Stays};
 
 use crate::count::raised_by;
 use crate::files::{FetchFault, Files};
-use text_core::{Bytes, Memory};
 use std::alloc::Global;
 use std::fs::File;
 use std::io::Read;
 use std::marker::Model;
 use std::{rt, str};
+use text_core::{Bytes, Memory};
 
 /// The files of the file system, reached through the runtime that it keeps. It tells nothing of what they hold.
 #[derive(Drop)]
@@ -19,7 +21,7 @@ pub struct RealFiles<'a, R> {
 }
 
 impl<'a, R> Model for RealFiles<'a, R> {
-    ghost use Rattle.io_core.specs.Causes.{Counts};
+    ghost use Rattle.io_core.specs.Adapters.{Counts};
 
     ghost Value = { Counts };
 
@@ -40,16 +42,11 @@ impl<'a, R: rt::Files> RealFiles<'a, R> {
 }
 
 impl<'a, R: rt::Files> Files for RealFiles<'a, R> {
-    ghost held = { λ _. None };
+    ghost known = { counts_known };
 
-    ghost faults = { λ f. f.faults };
-
-    ghost given = { λ f. f.given };
-
-    ghost blamed = { λ _. None };
-
-    /// As `Files` says. A name that is not UTF-8 is a fault, as is a file that cannot be opened or read. Each
+    /// As `Files` says, with the bytes read straight into `into`. A name that is not UTF-8 is a fault, as is a file that cannot be opened or read. Each
     /// read raises `given` by the number of its bytes, and reading stops past `most`.
+    #[tactic(auto, using(crate::proofs::Appended::unknown_fetched))]
     fn fetch(
         &mut self,
         alloc: Global,
@@ -57,37 +54,44 @@ impl<'a, R: rt::Files> Files for RealFiles<'a, R> {
         most: u32,
         into: &mut Bytes,
     ) -> Result<(), FetchFault>
-        ensures appended { OnOk result (AppendsAtMost most into.old into.new) }
+        ensures fetched { OnOk result (Fetches most name.now (counts_known self.old) into.old into.new) }
+        ensures failed { IsErrOf result FetchFault.Failed
+            → Fails (counts_known self.old) (counts_known self.new) name.now }
+        ensures too_long { IsErrOf result FetchFault.TooLong
+            → IsTooLong most name.now (counts_known self.old) (counts_known self.new) }
+        ensures stays { ¬ (IsErrOf result FetchFault.Failed) → Stays (counts_known self.old) (counts_known self.new) }
+        ensures into_stays { OnErr result (into.new ≡ into.old) }
         ensures counted { OnOk result (self.new.given ≡ raised self.old.given (length into.new - length into.old)) }
         ensures utf8 { ¬ (IsUtf8 name.now) → IsErrOf result FetchFault.Failed }
-        ensures failed { IsErrOf result FetchFault.Failed → Rose self.old.faults self.new.faults }
-        ensures too_long { IsErrOf result FetchFault.TooLong → RoseAbove most self.old.given self.new.given }
-        ensures into_stays { OnErr result (into.new ≡ into.old) }
         ensures faults_stay { ¬ (IsErrOf result FetchFault.Failed) → self.new.faults ≡ self.old.faults }
-        ensures faults_grow { self.old.faults ≤ self.new.faults }
-        ensures given_grows { self.old.given ≤ self.new.given }
     {
-        let read = read_file(self.rt, alloc, name, most, &mut self.given);
-        if let Err(FetchFault::Failed) = &read {
+        let before = into.len();
+        let Err(fault) = read_file(self.rt, alloc, name, most, &mut self.given, into) else {
+            return Ok(());
+        };
+        into.truncate(before);
+        if let FetchFault::Failed = &fault {
             self.faults = raised_by(self.faults, 1);
         }
-        into.extend_from_slice(read?.as_slice())?;
-        Ok(())
+        Err(fault)
     }
 
     ghost told = { λ _. refl };
 }
 
-// The bytes of the file with this name, if they are at most this many. `given` rises by the bytes that were read.
+// Appends the bytes of the file with this name, if they are at most this many; at a fault some of them may be
+// appended. `given` rises by the bytes that were read.
 fn read_file<R: rt::Files>(
     rt: &R,
     alloc: Global,
     name: &[u8],
     most: u32,
     given: &mut u64,
-) -> Result<Bytes, FetchFault>
-    ensures within { IfOk result (λ bytes. length bytes ≤ most) }
-    ensures counted { IfOk result (λ bytes. given.new ≡ raised given.old (length bytes)) }
+    into: &mut Bytes,
+) -> Result<(), FetchFault>
+    ensures front { take (length into.old) into.new ≡ into.old }
+    ensures within { OnOk result (length into.new ≤ length into.old + most) }
+    ensures counted { OnOk result (given.new ≡ raised given.old (length into.new - length into.old)) }
     ensures utf8 { ¬ (IsUtf8 name.now) → IsErrOf result FetchFault.Failed }
     ensures later { given.old ≤ given.new }
     ensures too_long { IsErrOf result FetchFault.TooLong → RoseAbove most given.old given.new }
@@ -96,36 +100,40 @@ fn read_file<R: rt::Files>(
         return Err(FetchFault::Failed);
     };
     match File::open(rt, path) {
-        Ok(mut file) => read_within(alloc, &mut file, most, given),
+        Ok(mut file) => read_within(alloc, &mut file, most, given, into),
         Err(_) => Err(FetchFault::Failed),
     }
 }
 
-// The bytes up to the end, if they are at most this many. `given` rises by the bytes that were read.
+// Appends the bytes up to the end, if they are at most this many; at a fault some of them may be appended.
+// `given` rises by the bytes that were read.
 fn read_within<T: Read>(
     alloc: Global,
     file: &mut T,
     most: u32,
     given: &mut u64,
-) -> Result<Bytes, FetchFault>
-    ensures whole { IfOk result (λ bytes. IfSome (T.remaining file.old) (λ rest. bytes ≡ rest)) }
-    ensures within { IfOk result (λ bytes. length bytes ≤ most) }
-    ensures counted { IfOk result (λ bytes. given.new ≡ raised given.old (length bytes)) }
+    into: &mut Bytes,
+) -> Result<(), FetchFault>
+    ensures whole { OnOk result (IfSome (T.remaining file.old) (λ rest. into.new ≡ into.old ++ rest)) }
+    ensures front { take (length into.old) into.new ≡ into.old }
+    ensures within { OnOk result (length into.new ≤ length into.old + most) }
+    ensures counted { OnOk result (given.new ≡ raised given.old (length into.new - length into.old)) }
     ensures later { given.old ≤ given.new }
     ensures too_long { IsErrOf result FetchFault.TooLong → RoseAbove most given.old given.new }
 {
-    let before = *given;
+    let given_before = *given;
+    let before = into.len();
     let mut chunk = read_buffer(alloc)?;
-    let mut gathered = Bytes::new(alloc);
     loop {
         match file.read(&mut chunk) {
-            Ok(0) => return Ok(gathered),
+            Ok(0) => return Ok(()),
             Ok(count) => {
-                *given = raised_by(before, (gathered.len() + count) as u64);
-                if count > most as usize - gathered.len() {
+                let read = into.len() - before;
+                *given = raised_by(given_before, (read + count) as u64);
+                if count > most as usize - read {
                     return Err(FetchFault::TooLong);
                 }
-                gathered.extend_from_slice(&chunk[..count])?;
+                into.extend_from_slice(&chunk[..count])?;
             }
             Err(_) => return Err(FetchFault::Failed),
         }

@@ -1,6 +1,8 @@
 ghost use Rattle.std.specs.Prelude.{◌≡◌, ◌≤◌, ℕ, [], None, IsOk, OnOk, OnErr, take};
 ghost use Rattle.std.specs.Io.KnownBytes.{Appends};
 ghost use Rattle.io_core.specs.Causes.{Rose};
+ghost use Rattle.io_core.specs.Adapters.{written_known};
+ghost use Rattle.io_core.specs.Stream.{Breaks, Puts};
 
 use crate::count::raised_by;
 use crate::sink::{Sink, SinkFault};
@@ -16,7 +18,7 @@ pub struct StreamSink<T: Write> {
 }
 
 impl<T: Write> Model for StreamSink<T> {
-    ghost use Rattle.io_core.specs.Causes.{Written};
+    ghost use Rattle.io_core.specs.Adapters.{Written};
 
     ghost Value = { Written };
 
@@ -33,18 +35,16 @@ impl<T: Write> StreamSink<T> {
 }
 
 impl<T: Write> Sink for StreamSink<T> {
-    ghost contents = { λ _. None };
-
-    ghost faults = { λ s. s.faults };
+    ghost stream = { written_known };
 
     /// As `Sink` says. A write that takes nothing of a piece that is not empty is a fault, as is a failed write
     /// or flush. Where the writer says what it holds, the whole piece was written, or at a fault a prefix of it.
     fn put(&mut self, piece: &[u8]) -> Result<(), SinkFault>
         ensures appended { OnOk result (Appends self.old.written self.new.written piece.now) }
         ensures prefix { (n : ℕ) × Appends self.old.written self.new.written (take n piece.now) }
-        ensures cause { OnErr result (Rose self.old.faults self.new.faults) }
+        ensures puts { OnOk result (Puts (written_known self.old) (written_known self.new) piece.now) }
+        ensures breaks { OnErr result (Breaks (written_known self.old) (written_known self.new) piece.now) }
         ensures faults_stay { OnOk result (self.new.faults ≡ self.old.faults) }
-        ensures faults_grow { self.old.faults ≤ self.new.faults }
         ensures empty { piece.now ≡ [] → IsOk result }
     {
         let written = write_whole(&mut self.inner, piece);

@@ -1,8 +1,10 @@
-use crate::{FetchFault, Files, MemoryFiles, MemorySink, RealFiles, Sink, SinkFault, StreamSink};
-use text_core::{Bytes, Memory};
+use crate::{
+    FetchFault, Files, MemoryFiles, MemorySink, RealFiles, Sink, SinkFault, StreamSink, fetch_whole,
+};
 use std::fs;
 use std::fs::File;
 use std::test::Fail;
+use text_core::{Bytes, Memory};
 
 const PROBLEM: &[u8] = b"fof(a1,axiom,p(c)).";
 
@@ -61,6 +63,8 @@ fn real_files_and_streams(rt: HostRuntime) -> Result<(), Fail> {
     let mut files = RealFiles::new(&rt);
     let whole = fetched(&rt, &mut files, b"x.p", 19)?;
     assert_eq!(rt; whole.as_slice(), b"before fof(a1,axiom,p(c)).".as_slice());
+    let alone = fetch_whole(rt.alloc(), &mut files, b"x.p")?;
+    assert_eq!(rt; alone.as_slice(), PROBLEM);
     let answer = fetched(&rt, &mut files, b"x.p", 18);
     assert!(rt; matches!(&answer, Err(FetchFault::TooLong)));
     for name in [b"x.v".as_slice(), b"\xff".as_slice()] {
@@ -69,5 +73,6 @@ fn real_files_and_streams(rt: HostRuntime) -> Result<(), Fail> {
     }
     let mut read_only = StreamSink::new(File::open(&rt, "x.p")?);
     assert!(rt; !takes(&mut read_only, b"x"));
+    fs::remove_file(&rt, "x.p")?;
     Ok(())
 }

@@ -6,8 +6,6 @@ mod form;
 mod formula;
 mod formula_copy;
 mod problem;
-#[cfg(test)]
-mod tests;
 mod world;
 
 pub use form::{Atom, Form, Slot};

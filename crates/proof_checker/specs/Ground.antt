@@ -10,7 +10,8 @@ use Rattle.logic_core.specs.declared.formula.Formula.{Formula, Pred}
 use Rattle.logic_core.specs.declared.problem.Role.{Role}
 use Rattle.logic_core.specs.declared.problem.Role.TheVariants.{Conjecture}
 use Rattle.logic_core.specs.declared.problem.Fof.{Fof}
-use Rattle.tptp_lexer.specs.Tokens.{Token, AreTokens, texts_of}
+use Rattle.tptp_lexer.specs.Tokens.{Token, AreTokens}
+use Rattle.tptp_lexer.specs.Columns.{texts_of}
 use Rattle.proof_checker.specs.declared.ground.GroundAtom.{GroundAtom}
 use Rattle.proof_checker.specs.declared.ground.GroundFormula.{GroundFormula}
 use Rattle.proof_checker.specs.declared.ground.CitedFact.{CitedFact}

@@ -1,5 +1,6 @@
 ghost use Rattle.std.specs.Prelude.{◌≡◌, ◌≢◌, ◌⊎◌, [], ◌<◌, ◌^◌, length, List as Lst, IfOk, IfErr, MatchResult};
-ghost use Rattle.tptp_lexer.specs.Tokens.{Token, AreTokens, texts_of};
+ghost use Rattle.tptp_lexer.specs.Tokens.{Token, AreTokens};
+ghost use Rattle.tptp_lexer.specs.Columns.{texts_of};
 ghost use Rattle.proof_checker.specs.declared.words.NotRead.{NotRead as Fault};
 ghost use Rattle.proof_checker.specs.declared.words.NotRead.TheVariants as faults;
 ghost use Rattle.proof_checker.specs.declared.ground.CitedFact.{CitedFact as Step};

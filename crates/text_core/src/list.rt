@@ -1,4 +1,4 @@
-ghost use Rattle.std.specs.Prelude.{◌≡◌, [], ◌∷◌, ◌++◌, ◌≤◌, ◌<◌, length, slice_get, IfNone, IfOk, OnOk, OnErr, OnSome};
+ghost use Rattle.std.specs.Prelude.{◌≡◌, [], ◌∷◌, ◌++◌, ◌≤◌, ◌<◌, length, slice_get, take, IfNone, IfOk, OnOk, OnErr, OnSome};
 ghost use Rattle.std.specs.Option.{option_copied};
 
 use crate::memory::Memory;
@@ -81,6 +81,13 @@ impl<T: Drop> List<T> {
     {
         self.items.push(item)?;
         Ok(())
+    }
+
+    /// Keeps the first items, so many at most.
+    pub fn truncate(&mut self, most: usize)
+        ensures { self.new ≡ take most self.old }
+    {
+        self.items.truncate(most);
     }
 }
 

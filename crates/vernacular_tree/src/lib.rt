@@ -17,6 +17,3 @@ pub use law::{
 pub use nodes::TreeRefusal;
 pub use proof::Proof;
 pub use tree::{Body, End, Mp, Node};
-
-#[cfg(test)]
-mod tests;
