@@ -150,7 +150,7 @@ fn walk_inclusion<F: Files>(
 
 /// Keeps a formula whose name is in every selection.
 fn keep_selected(walked: &mut Walked, selected: &Selected, fof: Fof) -> Result<(), FlatWhy>
-    requires { FofMayStand fof }
+    requires { FofIsAllowed fof }
     ensures passes { OnOk result ((file : Text) →
         Passes walked.old (kept_entries file (selections_of selected.now) fof) walked.new) }
     ensures refused { IfErr result (IsNotKept walked.old (selections_of selected.now) fof) }
