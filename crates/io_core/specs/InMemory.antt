@@ -30,9 +30,11 @@ pub record StoredFiles : Type 0 where
 abbrev pub stored_files_code : Coded StoredFiles
 stored_files_code =
     code_by (Held × (ℕ × (ℕ × (Text × (List ℕ × ℕ)))))
-    (coded× (finite.code (coded_list coded_ℕ) (coded_list coded_ℕ)) (coded× coded_ℕ (coded× coded_ℕ (coded× (coded_list coded_ℕ) (coded× (coded_list coded_ℕ) coded_ℕ)))))
+    (coded× (finite.code (coded_list coded_ℕ) (coded_list coded_ℕ)) (coded× coded_ℕ
+    (coded× coded_ℕ (coded× (coded_list coded_ℕ) (coded× (coded_list coded_ℕ) coded_ℕ)))))
     (λ f. (f.held, (f.faults, (f.given, (f.blamed, (f.failing, f.fetches))))))
-    (λ t. record { held = t.0; faults = t.1.0; given = t.1.1.0; blamed = t.1.1.1.0; failing = t.1.1.1.1.0; fetches = t.1.1.1.1.1 })
+    (λ t. record { held = t.0; faults = t.1.0; given = t.1.1.0; blamed = t.1.1.1.0; failing =
+        t.1.1.1.1.0; fetches = t.1.1.1.1.1 })
     (λ _. refl)
 
 -- stored files are known whole

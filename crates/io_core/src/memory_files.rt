@@ -69,8 +69,8 @@ impl MemoryFiles {
         }
     }
 
-    /// Gives a name these bytes, and not those that it had. `Memory` is want of memory, and the files
-    /// are as before.
+    /// Gives a name these bytes, and not those that it had. `Memory` is want of memory, and the
+    /// files are as before.
     pub fn insert(&mut self, name: &[u8], bytes: &[u8]) -> Result<(), Memory>
         ensures ok { OnOk result
             (self.new ≡ record self.old { held = finite.insert self.old.held name.now bytes.now }) }

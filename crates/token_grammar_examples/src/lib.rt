@@ -1,5 +1,6 @@
-//! A worked grammar for the machine of `token_grammar`: expressions of numbers, signs, sums and rows, with a watcher that stops at
-//! a count and at a level, and a builder that makes their values.
+//! A worked grammar for the machine of `token_grammar`: expressions of numbers, signs, sums and
+//! rows, with a watcher that stops at a count and at a level, and a builder that makes their
+//! values.
 #![tactic(auto)]
 
 mod builder;

@@ -21,7 +21,8 @@ use crate::watch::{Count, Fault};
 use std::alloc::Global;
 use token_grammar::{Refusal, Told, build, seen_is_told, texts_have_one_value};
 
-/// Reads the tokens as an expression. `Stopped` at the first number or row that is one too many or too deep.
+/// Reads the tokens as an expression. `Stopped` at the first number or row that is one too many or
+/// too deep.
 pub fn read_expression(
     alloc: Global,
     tokens: &Vec<Mark>,
