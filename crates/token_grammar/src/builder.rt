@@ -7,11 +7,11 @@ use crate::part::Part;
 use crate::source::Source;
 use text_core::Memory;
 
-/// What is built while the machine reads a text: a struct of registers that acts at each token, and where a part stands for its
-/// empty row.
+/// What is built while the machine reads a text: a struct of registers that acts at each token, and
+/// where a part stands for its empty row.
 ///
-/// `making` says how the value of a part is made of a token or of the values of a row, and `effect` what a value leaves in the
-/// registers, whatever they held before.
+/// `making` says how the value of a part is made of a token or of the values of a row, and `effect`
+/// what a value leaves in the registers, whatever they held before.
 pub trait Builder<P: Part, S: Source<P::Token>> {
     ghost grammar: { Grammar P P.Token };
 
@@ -31,12 +31,14 @@ pub trait Builder<P: Part, S: Source<P::Token>> {
 
     ghost Watched: { P → P.Token → Type 0 };
 
-    /// Acts at the token of this number, which the part took and in which the watcher found no fault.
+    /// Acts at the token of this number, which the part took and in which the watcher found no
+    /// fault.
     fn take(&mut self, tokens: &S, number: usize, part: P, token: P::Token) -> Result<(), Memory>
         requires at { slice_get (S.marks tokens.now) number ≡ Some token }
         requires taken { IsTrue (grammar.takes part token) }
         requires watched { Watched part token }
-        ensures { IfOk result (λ _. built self.new ≡ takes tokens.now part token (built self.old)) };
+        ensures { IfOk result (λ _.
+            built self.new ≡ takes tokens.now part token (built self.old)) };
 
     /// Acts where the part stands for its empty row.
     fn pass(&mut self, part: P) -> Result<(), Memory>
@@ -44,8 +46,8 @@ pub trait Builder<P: Part, S: Source<P::Token>> {
 
     ghost reads: { P.grammar ≡ grammar };
 
-    ghost watches: { (before after : P.Seen) (part : P) (token : P.Token) → P.watcher.sees before part token after →
-        Watched part token };
+    ghost watches: { (before after : P.Seen) (part : P) (token : P.Token) →
+        P.watcher.sees before part token after → Watched part token };
 
     ghost building: { (tokens : S) →
         IsBuilding grammar Value (making tokens) (takes tokens) passes (effect tokens) };

@@ -2,7 +2,8 @@ ghost use Rattle.std.specs.Prelude.{◌≡◌, List, [], ◌∷◌};
 ghost use Rattle.token_grammar.specs.Grammar.{Grammar};
 ghost use Rattle.token_grammar.specs.Factored.{Translates};
 
-/// A grammar as it is printed, and the factored one that the machine reads: each part of one stands for rows of the other.
+/// A grammar as it is printed, and the factored one that the machine reads: each part of one stands
+/// for rows of the other.
 pub trait Factored {
     ghost Token: { Type 0 };
 

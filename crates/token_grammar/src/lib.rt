@@ -1,7 +1,8 @@
 //! Grammars over tokens, and one machine that reads a text of any of them.
 //!
-//! A grammar is given as data: which tokens a part takes, and which rows of parts it may stand for. The machine looks
-//! at one token at a time, keeps one stack, and refuses at exactly the first token with which the tokens begin no text.
+//! A grammar is given as data: which tokens a part takes, and which rows of parts it may stand for.
+//! The machine looks at one token at a time, keeps one stack, and refuses at exactly the first
+//! token with which the tokens begin no text.
 #![tactic(auto)]
 
 mod builder;

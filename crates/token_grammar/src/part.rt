@@ -17,7 +17,8 @@ pub enum Step {
     Refuse,
 }
 
-/// A part of a grammar, with the grammar, the plan by which it is read, and the watcher that looks at each taken token.
+/// A part of a grammar, with the grammar, the plan by which it is read, and the watcher that looks
+/// at each taken token.
 pub trait Part: Copy {
     /// What the machine sees of a token.
     type Token: Copy;
@@ -42,7 +43,8 @@ pub trait Part: Copy {
 
     /// Takes the token, or pushes the alternative that the token asks for, or refuses.
     fn step(self, token: Self::Token, stack: &mut Vec<Self>) -> Result<Step, Memory>
-        ensures { IfOk result (λ step. Steps grammar plan self token stack.old.items stack.new.items step) };
+        ensures { IfOk result (λ step.
+            Steps grammar plan self token stack.old.items stack.new.items step) };
 
     /// Shows the watcher a token that the part took. The inner error is the fault that it finds.
     fn note(

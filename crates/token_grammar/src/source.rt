@@ -1,6 +1,7 @@
 ghost use Rattle.std.specs.Prelude.{◌≡◌, ◌<◌, List, length, Some, slice_get};
 
-/// Tokens that are read by number, so that a grammar over marks needs no list of marks. `M` is what the grammar sees of a token.
+/// Tokens that are read by number, so that a grammar over marks needs no list of marks. `M` is what
+/// the grammar sees of a token.
 pub trait Source<M> {
     ghost marks: { Self → List M };
 

@@ -5,7 +5,8 @@ use std::alloc::Global;
 use std::marker::Model;
 use text_core::Memory;
 
-/// A stack, as a builder's register for what is open. Contracts see the list of its items from the top.
+/// A stack, as a builder's register for what is open. Contracts see the list of its items from the
+/// top.
 #[derive(Debug, Drop)]
 pub struct Stack<T> {
     items: Vec<T>,
@@ -34,14 +35,16 @@ impl<T> Stack<T> {
 
     /// Takes the item on top away. `None` exactly where there is none.
     pub fn pop(&mut self) -> Option<T>
-        ensures { MatchOption result ((self.old ≡ []) × (self.new ≡ [])) (λ item. self.old ≡ item ∷ self.new) }
+        ensures { MatchOption result ((self.old ≡ []) × (self.new ≡ []))
+            (λ item. self.old ≡ item ∷ self.new) }
     {
         self.items.pop()
     }
 }
 
 impl<T: Drop> Stack<T> {
-    /// Puts an item on top. `Memory` is want of memory: the item is given up, and the stack is as before.
+    /// Puts an item on top. `Memory` is want of memory: the item is given up, and the stack is as
+    /// before.
     pub fn push(&mut self, item: T) -> Result<(), Memory>
         ensures ok { OnOk result (self.new ≡ item ∷ self.old) }
         ensures err { OnErr result (self.new ≡ self.old) }

@@ -5,8 +5,8 @@ ghost use Rattle.token_grammar.specs.Watch.{Watcher};
 ghost use Rattle.token_grammar.specs.Making.{Making};
 ghost use Rattle.token_grammar.specs.Building.{IsBuilding};
 
-/// A grammar whose watcher is told by the values: where it finds no fault in a part's tokens, it goes on to the effect of the
-/// part's value. `Store` is what the makings look at.
+/// A grammar whose watcher is told by the values: where it finds no fault in a part's tokens, it
+/// goes on to the effect of the part's value. `Store` is what the makings look at.
 pub trait Told {
     ghost Token: { Type 0 };
 
@@ -34,8 +34,8 @@ pub trait Told {
 
     ghost predictive: { IsPredictive grammar plan };
 
-    ghost agrees: { (store : Store) (before after : Seen) (p : Part) (t : Token) → watcher.sees before p t after →
-        after ≡ looks store p t before };
+    ghost agrees: { (store : Store) (before after : Seen) (p : Part) (t : Token) →
+        watcher.sees before p t after → after ≡ looks store p t before };
 
     ghost telling: { (store : Store) →
         IsBuilding grammar Value (making store) (looks store) (λ p seen. seen) (effect store) };

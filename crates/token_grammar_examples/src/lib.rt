@@ -1,5 +1,6 @@
-//! A worked grammar for the machine of `token_grammar`: expressions of numbers, signs, sums and rows, with a watcher that stops at
-//! a count and at a level, and a builder that makes their values.
+//! A worked grammar for the machine of `token_grammar`: expressions of numbers, signs, sums and
+//! rows, with a watcher that stops at a count and at a level, and a builder that makes their
+//! values.
 #![tactic(auto)]
 
 mod builder;
@@ -14,4 +15,4 @@ pub use expression::Expression;
 pub use mark::Mark;
 pub use reader::{Counting, expressions_have_one_value, read_expression};
 pub use symbol::{Rule, Symbol, Taker};
-pub use watch::{Count, Fault, MOST_LEVELS, MOST_MARKS};
+pub use watch::{Count, Fault, MOST_LEVELS, MOST_PIECES};
