@@ -65,7 +65,10 @@ fn read(
     let start = Instant::now(rt)?;
     let count = commas(&marks);
     let plain = start.elapsed(rt)?;
-    let mut watch = Count { marks: 0, level: 0 };
+    let mut watch = Count {
+        pieces: 0,
+        level: 0,
+    };
     let start = Instant::now(rt)?;
     let taken = recognize(rt.alloc(), Symbol::Row(Rule::Whole), &marks, &mut watch).is_ok();
     let machine = start.elapsed(rt)?;

@@ -5,7 +5,7 @@ use token_grammar_examples::Rule::Whole;
 use token_grammar_examples::Symbol::{Row, Taken};
 use token_grammar_examples::Taker::Number;
 use token_grammar_examples::{
-    Count, Expression, Fault, MOST_LEVELS, MOST_MARKS, Mark, expressions_have_one_value,
+    Count, Expression, Fault, MOST_LEVELS, MOST_PIECES, Mark, expressions_have_one_value,
     read_expression,
 };
 
@@ -81,9 +81,12 @@ fn rows_are_read(rt: HostRuntime) -> Result<(), Fail> {
             _ => false,
         }
     );
-    let mut count = Count { marks: 0, level: 0 };
+    let mut count = Count {
+        pieces: 0,
+        level: 0,
+    };
     assert!(rt; recognize(rt.alloc(), Row(Whole), &tokens, &mut count).is_ok());
-    assert!(rt; count.marks == 6 && count.level == 0);
+    assert!(rt; count.pieces == 6 && count.level == 0);
     Ok(())
 }
 
@@ -120,7 +123,7 @@ fn expressions_are_refused(rt: HostRuntime) -> Result<(), Fail> {
 fn expressions_are_stopped(rt: HostRuntime) -> Result<(), Fail> {
     let deep = vec![in rt.alloc(); Mark::Open, Mark::OpenRow, Mark::OpenRow, Mark::Number(1)]?;
     let mut count = Count {
-        marks: 0,
+        pieces: 0,
         level: MOST_LEVELS - 2,
     };
     assert!(rt;
@@ -134,7 +137,7 @@ fn expressions_are_stopped(rt: HostRuntime) -> Result<(), Fail> {
     );
     // The second row is one row too many, and one level too deep.
     let mut count = Count {
-        marks: MOST_MARKS - 1,
+        pieces: MOST_PIECES - 1,
         level: MOST_LEVELS - 2,
     };
     assert!(rt;

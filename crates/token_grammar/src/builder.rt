@@ -37,8 +37,8 @@ pub trait Builder<P: Part, S: Source<P::Token>> {
         requires at { slice_get (S.marks tokens.now) number ≡ Some token }
         requires taken { IsTrue (grammar.takes part token) }
         requires watched { Watched part token }
-        ensures { IfOk result (λ _. built self.new ≡ takes tokens.now part token
-            (built self.old)) };
+        ensures { IfOk result (λ _.
+            built self.new ≡ takes tokens.now part token (built self.old)) };
 
     /// Acts where the part stands for its empty row.
     fn pass(&mut self, part: P) -> Result<(), Memory>
@@ -46,8 +46,8 @@ pub trait Builder<P: Part, S: Source<P::Token>> {
 
     ghost reads: { P.grammar ≡ grammar };
 
-    ghost watches: { (before after : P.Seen) (part : P) (token : P.Token) → P.watcher.sees before part token after →
-        Watched part token };
+    ghost watches: { (before after : P.Seen) (part : P) (token : P.Token) →
+        P.watcher.sees before part token after → Watched part token };
 
     ghost building: { (tokens : S) →
         IsBuilding grammar Value (making tokens) (takes tokens) passes (effect tokens) };

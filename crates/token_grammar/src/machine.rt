@@ -28,11 +28,9 @@ pub fn recognize<P: Part, S: Source<P::Token>>(
     watch: &mut P::Watch,
 ) -> Result<(), Refusal<P, P::Fault>>
     ensures text { OnOk result (IsAccepted P.grammar P.watcher start (P.seen watch.old)
-        (S.marks tokens.now)
-        (P.seen watch.new)) }
+        (S.marks tokens.now) (P.seen watch.new)) }
     ensures refused { IfErr result (λ refusal. IsRefused P.grammar P.watcher start
-        (P.seen watch.old) (S.marks tokens.now)
-        (P.seen watch.new) refusal) }
+        (P.seen watch.old) (S.marks tokens.now) (P.seen watch.new) refusal) }
 {
     build(alloc, start, tokens, watch, &mut Nothing)
 }
@@ -50,11 +48,9 @@ pub fn build<P: Part, S: Source<P::Token>, B: Builder<P, S>>(
     builder: &mut B,
 ) -> Result<(), Refusal<P, P::Fault>>
     ensures text { OnOk result (IsAccepted P.grammar P.watcher start (P.seen watch.old)
-        (S.marks tokens.now)
-        (P.seen watch.new)) }
+        (S.marks tokens.now) (P.seen watch.new)) }
     ensures refused { IfErr result (λ refusal. IsRefused P.grammar P.watcher start
-        (P.seen watch.old) (S.marks tokens.now)
-        (P.seen watch.new) refusal) }
+        (P.seen watch.old) (S.marks tokens.now) (P.seen watch.new) refusal) }
     ensures value { OnOk result ((value : B.Value start) ×
         SpelledAs B.grammar B.Value (B.making tokens.now) start value (S.marks tokens.now) ×
         (B.built builder.new ≡ B.effect tokens.now start value (B.built builder.old))) }
@@ -91,8 +87,8 @@ fn stack_of<P: Part>(alloc: Global, start: P) -> Result<Vec<P>, Memory>
     Ok(stack)
 }
 
-// Expands the stack's top until a part takes the token, which is the answer, or none can. The builder is told of each part that
-// stands for its empty row.
+// Expands the stack's top until a part takes the token, which is the answer, or none can. The
+// builder is told of each part that stands for its empty row.
 fn take_token<P: Part, S: Source<P::Token>, B: Builder<P, S>>(
     stack: &mut Vec<P>,
     token: P::Token,
@@ -100,9 +96,9 @@ fn take_token<P: Part, S: Source<P::Token>, B: Builder<P, S>>(
 ) -> Result<Option<P>, Memory>
     ensures moves { IfOk result (λ taker. Moves P.grammar P.plan token (reverse stack.old.items)
         (reverse stack.new.items) taker) }
-    ensures acts { (tokens : S) → IfOk result (λ taker. ComesTo B.grammar
-        (B.takes tokens) B.passes (reverse stack.old.items)
-        (B.built builder.old) taker (reverse stack.new.items) (B.built builder.new)) }
+    ensures acts { (tokens : S) → IfOk result (λ taker. ComesTo B.grammar (B.takes tokens) B.passes
+        (reverse stack.old.items) (B.built builder.old) taker (reverse stack.new.items)
+        (B.built builder.new)) }
 {
     while let Some(part) = stack.pop() {
         let below = stack.len();
@@ -133,8 +129,7 @@ fn pass_rest<P: Part, S: Source<P::Token>, B: Builder<P, S>>(
 ) -> Result<(), Memory>
     requires { IsTrue (list_all (is_nullable P.grammar) stack.now.items) }
     ensures { (tokens : S) → IfOk result (λ _. Acted B.grammar (B.takes tokens) B.passes
-        (reverse stack.old.items)
-        (B.built builder.old) [] (B.built builder.new)) }
+        (reverse stack.old.items) (B.built builder.old) [] (B.built builder.new)) }
 {
     while let Some(part) = stack.pop() {
         builder.pass(part)?;

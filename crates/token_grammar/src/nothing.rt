@@ -15,7 +15,8 @@ impl<P: Part, S: Source<P::Token>> Builder<P, S> for Nothing {
 
     ghost Value = { λ part. Unit {0} };
 
-    ghost making = { λ tokens. record { of_token = λ part token taken. tt; of_row = λ part choice values. tt } };
+    ghost making = { λ tokens.
+        record { of_token = λ part token taken. tt; of_row = λ part choice values. tt } };
 
     ghost Built = { Unit {0} };
 
@@ -47,5 +48,6 @@ impl<P: Part, S: Source<P::Token>> Builder<P, S> for Nothing {
 
     ghost watches = { λ before after part token sees. tt };
 
-    ghost building = { λ tokens. record { token = λ part token taken built. refl; row = λ part choice values built. refl } };
+    ghost building = { λ tokens.
+        record { token = λ part token taken built. refl; row = λ part choice values built. refl } };
 }

@@ -43,8 +43,8 @@ pub trait Part: Copy {
 
     /// Takes the token, or pushes the alternative that the token asks for, or refuses.
     fn step(self, token: Self::Token, stack: &mut Vec<Self>) -> Result<Step, Memory>
-        ensures { IfOk result
-            (λ step. Steps grammar plan self token stack.old.items stack.new.items step) };
+        ensures { IfOk result (λ step.
+            Steps grammar plan self token stack.old.items stack.new.items step) };
 
     /// Shows the watcher a token that the part took. The inner error is the fault that it finds.
     fn note(

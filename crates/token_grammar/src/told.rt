@@ -34,8 +34,8 @@ pub trait Told {
 
     ghost predictive: { IsPredictive grammar plan };
 
-    ghost agrees: { (store : Store) (before after : Seen) (p : Part) (t : Token) → watcher.sees before p t after →
-        after ≡ looks store p t before };
+    ghost agrees: { (store : Store) (before after : Seen) (p : Part) (t : Token) →
+        watcher.sees before p t after → after ≡ looks store p t before };
 
     ghost telling: { (store : Store) →
         IsBuilding grammar Value (making store) (looks store) (λ p seen. seen) (effect store) };

@@ -1,11 +1,11 @@
--- An expression that the watcher lets pass has few marks.
+-- An expression that the watcher lets pass has few pieces.
 use Rattle.std.proofs.Common.{◌≡◌, sym, ◌+◌, ◌<◌, ◌≤◌, List, ap, subst, arith}
 use Rattle.std.specs.Prelude.{Ok}
 use Rattle.token_grammar.specs.Answers.{IsAccepted}
 use Rattle.token_grammar.proofs.Laws.{sees_keep}
 use Rattle.token_grammar_examples.specs.declared.expression.Expression.{Expression}
 use Rattle.token_grammar_examples.specs.declared.mark.Mark as Mark
-use Rattle.token_grammar_examples.specs.declared.watch.TheConstants.{MOST_MARKS}
+use Rattle.token_grammar_examples.specs.declared.watch.TheConstants.{MOST_PIECES}
 use Rattle.token_grammar_examples.specs.declared.watch.Count.{Count}
 use Rattle.token_grammar_examples.specs.declared.symbol.Symbol as Symbol
 use Rattle.token_grammar_examples.specs.declared.symbol.Symbol.TheVariants.{Taken, Row}
@@ -13,13 +13,13 @@ use Rattle.token_grammar_examples.specs.declared.symbol.Taker.TheVariants as tak
 use Rattle.token_grammar_examples.specs.declared.symbol.Rule.TheVariants.{Whole}
 use Rattle.token_grammar_examples.specs.Grammar.{expressions}
 use Rattle.token_grammar_examples.specs.Watching.{expression_watcher, look, closed, nothing_seen}
-use Rattle.token_grammar_examples.specs.Marks.{marks_in, with_more, seen_effect}
-use Rattle.token_grammar_examples.specs.MarksLaw.{counted_is, opened_is, row_opened_is}
+use Rattle.token_grammar_examples.specs.Pieces.{pieces_in, with_more, seen_effect}
+use Rattle.token_grammar_examples.specs.PiecesLaw.{counted_is, opened_is, row_opened_is}
 
 abbrev IsWithin : Count → Type 0
-IsWithin count = count.marks ≤ MOST_MARKS
+IsWithin count = count.pieces ≤ MOST_PIECES
 
-more : (before after : Count) → (before.marks < MOST_MARKS) × (after ≡ with_more 1 before) → IsWithin after
+more : (before after : Count) → (before.pieces < MOST_PIECES) × (after ≡ with_more 1 before) → IsWithin after
 more before after (less, e) = subst IsWithin (sym e) (omega (arith, less))
 
 deeper : (before after : Count) → after ≡ record before { level = before.level + 1 } → IsWithin before → IsWithin after
@@ -36,12 +36,12 @@ look_within before after (Taken taker.Close) t e within = let same : closed befo
 look_within before after (Taken taker.CloseRow) t e within = let same : closed before ≡ after = cc in subst IsWithin same within
 look_within before after _ t e within = let same : before ≡ after = cc in subst IsWithin same within
 
--- the expression that is read has as many marks as the watcher has counted
-pub accepted_marks : (ts : List Mark.Mark) (after : Count) (value : Expression) →
+-- the expression that is read has as many pieces as the watcher has counted
+pub accepted_pieces : (ts : List Mark.Mark) (after : Count) (value : Expression) →
     IsAccepted expressions expression_watcher (Row Whole) nothing_seen ts after → after ≡ seen_effect (Row Whole) value nothing_seen →
-    marks_in value ≤ MOST_MARKS
-accepted_marks ts after value accepted told =
+    pieces_in value ≤ MOST_PIECES
+accepted_pieces ts after value accepted told =
     let (takers, clean) = accepted.clean in
     let within = sees_keep expression_watcher IsWithin look_within takers ts nothing_seen after clean.seen (omega arith) in
-    let marks = ap (λ (count : Count). count.marks) told in
-    omega (arith, within, marks)
+    let pieces = ap (λ (count : Count). count.pieces) told in
+    omega (arith, within, pieces)

@@ -4,5 +4,5 @@ pub mod Watching
 pub mod Values
 pub mod Effects
 pub mod EffectsLaw
-pub mod Marks
-pub mod MarksLaw
+pub mod Pieces
+pub mod PiecesLaw

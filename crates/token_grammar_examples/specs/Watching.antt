@@ -1,7 +1,7 @@
 -- What the watcher of expressions does at a token.
 use Rattle.std.specs.Prelude.{◌≡◌, ◌+◌, ◌-◌, nat_lt, Result, Ok, Err, if◌then◌else◌}
 use Rattle.token_grammar.specs.Watch.{Watcher, watcher_of}
-use Rattle.token_grammar_examples.specs.declared.watch.TheConstants.{MOST_LEVELS, MOST_MARKS}
+use Rattle.token_grammar_examples.specs.declared.watch.TheConstants.{MOST_LEVELS, MOST_PIECES}
 use Rattle.token_grammar_examples.specs.declared.watch.Count.{Count}
 use Rattle.token_grammar_examples.specs.declared.watch.Fault as Fault
 use Rattle.token_grammar_examples.specs.declared.watch.Fault.TheVariants.{TooMany, TooDeep}
@@ -12,15 +12,11 @@ use Rattle.token_grammar_examples.specs.declared.symbol.Taker.TheVariants.{Numbe
 
 -- a number or a row is counted, or is one too many
 abbrev pub counted : Count → Result Count Fault.Fault
-counted count =
-    if nat_lt count.marks MOST_MARKS then Ok
-    (record count { marks = count.marks + 1 }) else Err TooMany
+counted count = if nat_lt count.pieces MOST_PIECES then Ok (record count { pieces = count.pieces + 1 }) else Err TooMany
 
 -- a bracket or a row opens, or is too deep
 abbrev pub opened : Count → Result Count Fault.Fault
-opened count =
-    if nat_lt count.level MOST_LEVELS then Ok
-    (record count { level = count.level + 1 }) else Err TooDeep
+opened count = if nat_lt count.level MOST_LEVELS then Ok (record count { level = count.level + 1 }) else Err TooDeep
 
 abbrev pub opened_after : Result Count Fault.Fault → Result Count Fault.Fault
 opened_after (Ok count) = opened count
@@ -54,4 +50,4 @@ GoesOn outcome after (Err fault) = outcome ≡ Err fault
 
 -- what the watcher keeps before the first token
 abbrev pub nothing_seen : Count
-nothing_seen = record { marks = 0; level = 0 }
+nothing_seen = record { pieces = 0; level = 0 }

@@ -15,4 +15,4 @@ pub use expression::Expression;
 pub use mark::Mark;
 pub use reader::{Counting, expressions_have_one_value, read_expression};
 pub use symbol::{Rule, Symbol, Taker};
-pub use watch::{Count, Fault, MOST_LEVELS, MOST_MARKS};
+pub use watch::{Count, Fault, MOST_LEVELS, MOST_PIECES};

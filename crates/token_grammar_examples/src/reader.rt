@@ -4,13 +4,13 @@ ghost use Rattle.token_grammar.specs.SpelledAs.{SpelledAs};
 ghost use Rattle.token_grammar.specs.Answers.{IsRefused};
 ghost use Rattle.token_grammar_examples.specs.declared.expression.Expression.{Expression};
 ghost use Rattle.token_grammar_examples.specs.declared.watch.Count.{Count};
-ghost use Rattle.token_grammar_examples.specs.declared.watch.TheConstants.{MOST_MARKS};
+ghost use Rattle.token_grammar_examples.specs.declared.watch.TheConstants.{MOST_PIECES};
 ghost use Rattle.token_grammar_examples.specs.declared.symbol.Symbol.TheVariants.{Row as row};
 ghost use Rattle.token_grammar_examples.specs.declared.symbol.Rule.TheVariants.{Whole as whole};
 ghost use Rattle.token_grammar_examples.specs.Grammar.{expressions};
 ghost use Rattle.token_grammar_examples.specs.Values.{Value, expression_making};
 ghost use Rattle.token_grammar_examples.specs.Watching.{expression_watcher, nothing_seen};
-ghost use Rattle.token_grammar_examples.specs.Marks.{marks_in};
+ghost use Rattle.token_grammar_examples.specs.Pieces.{pieces_in};
 
 use crate::builder::ExpressionBuilder;
 use crate::expression::Expression;
@@ -29,12 +29,15 @@ pub fn read_expression(
 ) -> Result<Expression, Refusal<Symbol, Fault>>
     ensures read { IfOk result (λ expression.
         SpelledAs expressions Value expression_making (row whole) expression tokens.now.items) }
-    ensures bounded { IfOk result (λ expression. marks_in expression ≤ MOST_MARKS) }
-    ensures refused { IfErr result (λ refusal. (seen : Count) ×
-        IsRefused expressions expression_watcher (row whole) nothing_seen tokens.now.items seen refusal) }
+    ensures bounded { IfOk result (λ expression. pieces_in expression ≤ MOST_PIECES) }
+    ensures refused { IfErr result (λ refusal. (seen : Count) × IsRefused expressions
+        expression_watcher (row whole) nothing_seen tokens.now.items seen refusal) }
 {
     seen_is_told::<Counting>();
-    let mut count = Count { marks: 0, level: 0 };
+    let mut count = Count {
+        pieces: 0,
+        level: 0,
+    };
     let mut builder = ExpressionBuilder::new(alloc);
     build(alloc, Row(Whole), tokens, &mut count, &mut builder)?;
     Ok(builder.into_expression())
@@ -43,10 +46,12 @@ pub fn read_expression(
 /// The tokens are an expression exactly where some value spells them, and no two values spell them.
 pub fn expressions_have_one_value(tokens: &Vec<Mark>)
     ensures some { IsText expressions (row whole) tokens.now.items ↔
-        ((value : Expression) × SpelledAs expressions Value expression_making (row whole) value tokens.now.items) }
+        ((value : Expression) ×
+        SpelledAs expressions Value expression_making (row whole) value tokens.now.items) }
     ensures one { (first second : Expression) →
         SpelledAs expressions Value expression_making (row whole) first tokens.now.items →
-        SpelledAs expressions Value expression_making (row whole) second tokens.now.items → first ≡ second }
+        SpelledAs expressions Value expression_making (row whole) second tokens.now.items →
+        first ≡ second }
 {
     texts_have_one_value::<Symbol, Vec<Mark>, ExpressionBuilder>();
 }
@@ -63,8 +68,8 @@ impl Told for Counting {
     ghost use Rattle.token_grammar_examples.specs.GrammarLaw.{expression_law};
     ghost use Rattle.token_grammar_examples.specs.Values.{Value, expression_making};
     ghost use Rattle.token_grammar_examples.specs.Watching.{expression_watcher};
-    ghost use Rattle.token_grammar_examples.specs.Marks.{looks, seen_effect};
-    ghost use Rattle.token_grammar_examples.specs.MarksLaw.{looks_agrees, marks_telling};
+    ghost use Rattle.token_grammar_examples.specs.Pieces.{looks, seen_effect};
+    ghost use Rattle.token_grammar_examples.specs.PiecesLaw.{looks_agrees, pieces_telling};
 
     ghost Token = { Mark };
 
@@ -94,5 +99,5 @@ impl Told for Counting {
 
     ghost agrees = { λ store. looks_agrees };
 
-    ghost telling = { λ store. marks_telling };
+    ghost telling = { λ store. pieces_telling };
 }

@@ -5,12 +5,12 @@ ghost use Rattle.token_grammar_examples.specs.Watching.{GoesOn, counted, opened,
 pub const MOST_LEVELS: u32 = 100;
 
 /// How many numbers and rows an expression may have.
-pub const MOST_MARKS: u32 = 4_000_000;
+pub const MOST_PIECES: u32 = 4_000_000;
 
 /// What the watcher finds in an expression. Where both are at one token, it is `TooMany`.
 #[derive(Clone, Copy, Debug)]
 pub enum Fault {
-    /// There are more numbers and rows than `MOST_MARKS`.
+    /// There are more numbers and rows than `MOST_PIECES`.
     TooMany,
     /// More brackets and rows than `MOST_LEVELS` are open.
     TooDeep,
@@ -20,7 +20,7 @@ pub enum Fault {
 #[derive(Debug, Drop)]
 pub struct Count {
     /// How many numbers and rows there are so far.
-    pub marks: u32,
+    pub pieces: u32,
     /// How many brackets and rows are open.
     pub level: u32,
 }
@@ -30,10 +30,10 @@ impl Count {
     pub fn add(&mut self) -> Result<(), Fault>
         ensures { GoesOn (counted self.old) self.new result }
     {
-        if self.marks >= MOST_MARKS {
+        if self.pieces >= MOST_PIECES {
             return Err(Fault::TooMany);
         }
-        self.marks += 1;
+        self.pieces += 1;
         Ok(())
     }
 
