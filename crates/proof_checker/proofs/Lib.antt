@@ -11,3 +11,4 @@ pub mod Truth
 pub mod Texts
 pub mod Read
 pub mod Told
+pub mod Laws

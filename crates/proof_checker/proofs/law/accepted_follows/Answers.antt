@@ -3,7 +3,7 @@ use Rattle.logic_core.specs.Truth.{structure}
 use Rattle.proof_checker.specs.declared.ground.GroundAtom.{GroundAtom}
 use Rattle.proof_checker.specs.Ground.{goals_of}
 use Rattle.proof_checker.proofs.Truth.{follows}
-use Rattle.proof_checker.proofs.laws.accepted_follows.Goals as goal
+use Rattle.proof_checker.proofs.law.accepted_follows.Goals as goal
 
 one : (goals : List GroundAtom) → length goals ≡ 1 → (goal : GroundAtom) × (goals ≡ goal ∷ [])
 one [] e = absurd (omega arith)
