@@ -1,3 +1,6 @@
 pub mod Words
-pub mod Lines
+pub mod Texts
+pub mod Done
+pub mod Answers
+pub mod Reports
 pub mod Outcome

@@ -1,6 +1,6 @@
 ghost use Rattle.std.specs.Prelude.{◌≡◌, if◌then◌else◌, Some, None, codes};
 ghost use Rattle.std.specs.Str.{bytes_eq};
-ghost use Rattle.larus_cli.specs.Words.{command_of};
+ghost use Rattle.larus_cli.specs.Words.{command_of, check_words, convert_words};
 
 use logic_core::Bytes;
 
@@ -40,5 +40,27 @@ fn conversion(word: &[u8]) -> Option<Command>
         Some(Command::ConvertProblem)
     } else {
         None
+    }
+}
+
+/// The names of the problem's and the proof's file in the words of a check.
+pub(crate) fn check_names(words: &[Bytes]) -> (&[u8], &[u8])
+    requires { command_of words.now ≡ Some Command.Check }
+    ensures { words.now ≡ check_words result.0.now result.1.now }
+{
+    match words {
+        [_, problem, proof] => (problem.as_slice(), proof.as_slice()),
+        _ => unreachable!(),
+    }
+}
+
+/// The name of the problem's file in the words of its conversion.
+pub(crate) fn convert_name(words: &[Bytes]) -> &[u8]
+    requires { command_of words.now ≡ Some Command.ConvertProblem }
+    ensures { words.now ≡ convert_words result.now }
+{
+    match words {
+        [_, _, problem] => problem.as_slice(),
+        _ => unreachable!(),
     }
 }

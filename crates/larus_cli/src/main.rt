@@ -8,13 +8,16 @@ use std::process::ExitCode;
 mod arguments;
 mod command;
 mod decide;
+mod law;
+mod reply;
 mod report;
 mod run;
 #[cfg(test)]
 mod tests;
 
 pub use command::{Command, read_words};
-pub use report::{ProofRefusal, Report, message};
+pub use reply::message;
+pub use report::{ProofRefusal, ProofWhy, Report};
 pub use run::run;
 
 /// The status for want of memory.
