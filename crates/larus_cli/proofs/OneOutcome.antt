@@ -8,7 +8,8 @@ use Rattle.text_core.specs.Names.{Text}
 use Rattle.text_core.proofs.Laws.{value_same}
 use Rattle.logic_core.specs.declared.problem.Fof.{Fof}
 use Rattle.io_core.specs.Held.{Held}
-use Rattle.io_core.specs.Known.{Known, IsLong}
+use Rattle.io_core.specs.Known.{Known}
+use Rattle.io_core.specs.Fetched.{IsLong}
 use Rattle.tptp_printer.specs.Canonical.{problem_text}
 use Rattle.include_flat.specs.declared.refusal.FlatWhy.{FlatWhy}
 use Rattle.include_flat.specs.Flattened.{IsFlat}

@@ -4,7 +4,8 @@ use Rattle.std.proofs.Common.{◌≡◌, ◌⊎◌, inl, inr, ◌++◌, false, L
 use Rattle.text_core.specs.declared.limits.TheConstants.{MOST_FILE_BYTES}
 use Rattle.text_core.specs.Names.{Text}
 use Rattle.io_core.specs.Held.{Held}
-use Rattle.io_core.specs.Known.{Known, Grows, Fails, Holds, IsLong, IsTooLong}
+use Rattle.io_core.specs.Known.{Known}
+use Rattle.io_core.specs.Fetched.{Grows, Fails, Holds, IsLong, IsTooLong}
 use Rattle.io_core.proofs.Laws.{grows_on}
 use Rattle.include_flat.specs.declared.refusal.FlatWhy.{FlatWhy}
 use Rattle.include_flat.specs.declared.refusal.FlatWhy.TheVariants as flat

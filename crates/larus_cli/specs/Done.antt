@@ -6,7 +6,8 @@ use Rattle.logic_core.specs.Truth.{Structure}
 use Rattle.logic_core.specs.Problems.{Follows}
 use Rattle.logic_core.specs.declared.problem.Fof.{Fof}
 use Rattle.logic_core.specs.declared.problem.Item.TheVariants.{Fof as ItemFof}
-use Rattle.io_core.specs.Known.{Known, Holds}
+use Rattle.io_core.specs.Known.{Known}
+use Rattle.io_core.specs.Fetched.{Holds}
 use Rattle.io_core.specs.Stream.{Stream, Puts}
 use Rattle.tptp_lexer.specs.Tokens.{Token, AreTokens}
 use Rattle.tptp_grammar.specs.Texts.{AreItemsOf}

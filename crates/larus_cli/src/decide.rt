@@ -1,6 +1,7 @@
 ghost use Rattle.std.specs.Prelude.{◌≡◌, IfOk, IfErr, List as Lst};
 ghost use Rattle.text_core.specs.Names.{Text};
-ghost use Rattle.io_core.specs.Known.{Known, Grows, Holds};
+ghost use Rattle.io_core.specs.Known.{Known};
+ghost use Rattle.io_core.specs.Fetched.{Grows, Holds};
 ghost use Rattle.proof_checker.specs.declared.ground.GroundFormula.{GroundFormula as Ground};
 ghost use Rattle.text_core.specs.declared.limits.TheConstants.{MOST_FILE_BYTES};
 ghost use Rattle.larus_cli.specs.declared.report.Report.TheVariants.{ProofFile};

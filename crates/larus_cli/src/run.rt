@@ -3,7 +3,7 @@ ghost use Rattle.logic_core.specs.Truth.{structure};
 ghost use Rattle.text_core.specs.Lists.{IsAmong};
 ghost use Rattle.text_core.specs.Names.{Text};
 ghost use Rattle.io_core.specs.Causes.{Rose};
-ghost use Rattle.io_core.specs.Known.{Grows};
+ghost use Rattle.io_core.specs.Fetched.{Grows};
 ghost use Rattle.io_core.specs.Stream.{Puts, Breaks};
 ghost use Rattle.larus_cli.specs.Words.{command_of};
 ghost use Rattle.larus_cli.specs.Done.{ProblemFollows, ProblemPrinted};

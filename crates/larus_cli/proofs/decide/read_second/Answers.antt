@@ -1,6 +1,6 @@
 use Rattle.std.proofs.Common.{◌≡◌, ◌++◌, false, rules, sym, subst}
 use Rattle.text_core.specs.declared.limits.TheConstants.{MOST_FILE_BYTES}
-use Rattle.io_core.specs.Known.{Fails, IsTooLong}
+use Rattle.io_core.specs.Fetched.{Fails, IsTooLong}
 use Rattle.larus_cli.specs.declared.report.ProofWhy.TheVariants.{FileTooLong}
 use Rattle.larus_cli.specs.declared.report.Report.TheVariants.{ProofFile}
 use Rattle.larus_cli.specs.Texts.{fault_text}
