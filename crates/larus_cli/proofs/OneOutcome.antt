@@ -134,8 +134,16 @@ module _ (held : Held) where
 
     by_done : (text : Text) → Done words files text → OnWords words (on_output text 0)
     by_done _ (accepted problem proof bytes formulas size are reads holds is) =
-        inr (problem, Some proof, names_check words problem proof are, inr (reads.flat, here (λ h. IsFlat h problem reads.flat) reads.reads,
-        inr (formulas, reads.are, inr (bytes, here (λ h. finite.get h proof ≡ Some bytes) holds.held, holds.within, inl (size, is, refl)))))
+        inr (
+          problem,
+          Some proof,
+          names_check words problem proof are,
+          inr (
+            reads.flat,
+            here (λ h. IsFlat h problem reads.flat) reads.reads,
+            inr (formulas, reads.are, inr (bytes, here (λ h. finite.get h proof ≡ Some bytes) holds.held, holds.within, inl (size, is, refl))),
+          ),
+        )
     by_done _ (converted problem text formulas are reads is back) =
         let names = subst (λ ws. names_in (command_of ws) ws ≡ Some (problem, None)) (sym are) refl in
         inr (problem, None, names, inr (formulas, here (λ h. IsFlat h problem formulas) reads, ap (λ t. on_output t 0) is))
@@ -144,24 +152,80 @@ module _ (held : Held) where
         OnWords words (record { output = output; text = text; status = status })
     by_row (done text row) some = by_done text row
     by_row (refused problem proof bytes formulas are reads holds is) some =
-        inr (problem, Some proof, names_check words problem proof are, inr (reads.flat, here (λ h. IsFlat h problem reads.flat) reads.reads,
-        inr (formulas, reads.are, inr (bytes, here (λ h. finite.get h proof ≡ Some bytes) holds.held, holds.within,
-        inr (first.Refused, is, (λ e. cc), refl)))))
+        inr (
+          problem,
+          Some proof,
+          names_check words problem proof are,
+          inr (
+            reads.flat,
+            here (λ h. IsFlat h problem reads.flat) reads.reads,
+            inr (
+              formulas,
+              reads.are,
+              inr (
+                bytes,
+                here (λ h. finite.get h proof ≡ Some bytes) holds.held,
+                holds.within,
+                inr (first.Refused, is, (λ e. cc), refl),
+              ),
+            ),
+          ),
+        )
     by_row (problem_refused problem file why names is inner) some =
         inr (problem, names.0, names.1, inl (file, why, here (λ h. IsFlatRefused h problem file why) is, refl))
     by_row (problem_not_built problem second formulas names reads is) some =
         inr (problem, Some second, names, inr (formulas, here (λ h. IsFlat h problem formulas) reads, inl (is, refl)))
     by_row (too_long problem second formulas names reads long) some =
-        inr (problem, Some second, names, inr (reads.flat, here (λ h. IsFlat h problem reads.flat) reads.reads,
-        inr (formulas, reads.are, inl (here (λ h. IsLong h second MOST_FILE_BYTES) long, refl))))
+        inr (
+          problem,
+          Some second,
+          names,
+          inr (
+            reads.flat,
+            here (λ h. IsFlat h problem reads.flat) reads.reads,
+            inr (formulas, reads.are, inl (here (λ h. IsLong h second MOST_FILE_BYTES) long, refl)),
+          ),
+        )
     by_row (no_tokens problem second bytes formulas refusal names reads holds is) some =
-        inr (problem, Some second, names, inr (reads.flat, here (λ h. IsFlat h problem reads.flat) reads.reads,
-        inr (formulas, reads.are, inr (bytes, here (λ h. finite.get h second ≡ Some bytes) holds.held, holds.within,
-        inr (first.Lexical refusal, is, (λ e. cc), refl)))))
+        inr (
+          problem,
+          Some second,
+          names,
+          inr (
+            reads.flat,
+            here (λ h. IsFlat h problem reads.flat) reads.reads,
+            inr (
+              formulas,
+              reads.are,
+              inr (
+                bytes,
+                here (λ h. finite.get h second ≡ Some bytes) holds.held,
+                holds.within,
+                inr (first.Lexical refusal, is, (λ e. cc), refl),
+              ),
+            ),
+          ),
+        )
     by_row (no_proof problem second bytes formulas names reads holds is) some =
-        inr (problem, Some second, names, inr (reads.flat, here (λ h. IsFlat h problem reads.flat) reads.reads,
-        inr (formulas, reads.are, inr (bytes, here (λ h. finite.get h second ≡ Some bytes) holds.held, holds.within,
-        inr (first.NotBuilt, is, (λ e. cc), refl)))))
+        inr (
+          problem,
+          Some second,
+          names,
+          inr (
+            reads.flat,
+            here (λ h. IsFlat h problem reads.flat) reads.reads,
+            inr (
+              formulas,
+              reads.are,
+              inr (
+                bytes,
+                here (λ h. finite.get h second ≡ Some bytes) holds.held,
+                holds.within,
+                inr (first.NotBuilt, is, (λ e. cc), refl),
+              ),
+            ),
+          ),
+        )
     by_row (usage none) some = inl (none, refl)
     by_row (fault file asked fails) some = absurd (some refl)
 
@@ -172,7 +236,7 @@ pub one_outcome : (words : List Text) (held : Held) (files later other last : Kn
 one_outcome words held files later other last old new before after _ _ told also (answered output text status row put)
     (answered output' text' end row' put') settled settled' =
     let same = one_by_words held words _ _ (by_row held words files later told row settled.fetched)
-      (by_row held words other last also row' settled'.fetched) in
+    (by_row held words other last also row' settled'.fetched) in
     record {
       output = output;
       text = text;

@@ -16,7 +16,8 @@ use Rattle.proof_checker.specs.Ground.{fof_of, goals_of}
 use Rattle.proof_checker.specs.Accepted.{IsAccepted}
 use Rattle.larus_cli.specs.Words.{command_of, check_words, convert_words, names_in}
 use Rattle.larus_cli.specs.Done.{ReadsBack, Done, accepted, converted, ProblemFollows, ProblemPrinted}
-use Rattle.larus_cli.specs.Answers.{IsAsked, of_problem, as_second, Answer, done, refused, problem_refused, problem_not_built, too_long, no_tokens, no_proof, usage, fault}
+use Rattle.larus_cli.specs.Answers.{IsAsked, of_problem, as_second, Answer, done, refused, problem_refused, problem_not_built}
+use Rattle.larus_cli.specs.Answers.{too_long, no_tokens, no_proof, usage, fault}
 use Rattle.larus_cli.specs.Outcome.{Sinks, sinks, PutsTo, Outcome, answered, broken, out_of_memory}
 
 -- an answer with status 0 goes to the output, and the command is done
@@ -128,11 +129,17 @@ IsPut old new text wanted status = ((status ≡ wanted) × Puts old new text) �
 
 module _ {words : List Text} {files later : Known} (here new other : Stream) (text : Text) (wanted status : ℕ) where
   -- an answer was put to the output
-  pub to_output : Answer words files later true text wanted → IsPut here new text wanted status → Outcome words files later (sinks here other) (sinks new other) status
-  to_output row (inl (e, put)) = subst (Outcome words files later (sinks here other) (sinks new other)) (sym e) (answered true text wanted row (put, refl))
-  to_output row (inr (e, part)) = subst (Outcome words files later (sinks here other) (sinks new other)) (sym e) (broken true text wanted row (part, refl))
+  pub to_output : Answer words files later true text wanted → IsPut here new text wanted status →
+      Outcome words files later (sinks here other) (sinks new other) status
+  to_output row (inl (e, put)) = subst (Outcome words files later (sinks here other) (sinks new other)) (sym e)
+      (answered true text wanted row (put, refl))
+  to_output row (inr (e, part)) = subst (Outcome words files later (sinks here other) (sinks new other)) (sym e)
+      (broken true text wanted row (part, refl))
 
   -- an answer was put to the errors
-  pub to_errors : Answer words files later false text wanted → IsPut here new text wanted status → Outcome words files later (sinks other here) (sinks other new) status
-  to_errors row (inl (e, put)) = subst (Outcome words files later (sinks other here) (sinks other new)) (sym e) (answered false text wanted row (put, refl))
-  to_errors row (inr (e, part)) = subst (Outcome words files later (sinks other here) (sinks other new)) (sym e) (broken false text wanted row (part, refl))
+  pub to_errors : Answer words files later false text wanted → IsPut here new text wanted status →
+      Outcome words files later (sinks other here) (sinks other new) status
+  to_errors row (inl (e, put)) = subst (Outcome words files later (sinks other here) (sinks other new)) (sym e)
+      (answered false text wanted row (put, refl))
+  to_errors row (inr (e, part)) = subst (Outcome words files later (sinks other here) (sinks other new)) (sym e)
+      (broken false text wanted row (part, refl))

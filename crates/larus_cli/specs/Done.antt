@@ -19,7 +19,8 @@ use Rattle.proof_checker.specs.Accepted.{AcceptsWith}
 use Rattle.larus_cli.specs.Texts.{accepted_text}
 use Rattle.larus_cli.specs.Words.{check_words, convert_words}
 
--- the problem in this file, with the files that it includes, is flat with these formulas, where the files tell what they hold
+-- the problem in this file, with the files that it includes, is flat with these formulas, where the
+-- files tell what they hold
 abbrev pub ReadsProblem : Known → Text → List Fof → Type 0
 ReadsProblem files name formulas = IfSome files.held (λ held. IsFlat held name formulas)
 
@@ -31,22 +32,27 @@ pub record ReadsGround (files : Known) (name : Text) (formulas : List GroundForm
 
 -- the text has tokens, which are a text of these formulas
 abbrev pub ReadsBack : Text → List Fof → Type 0
-ReadsBack text formulas = (ts : List Token) × AreTokens text ts × AreItemsOf ts (map ItemFof formulas)
+ReadsBack text formulas =
+    (ts : List Token) × AreTokens text ts × AreItemsOf ts (map ItemFof formulas)
 
 pub data Done (words : List Text) (files : Known) : Text → Type 0 where
   -- the proof is accepted as a proof of the problem, with so many rule applications
-  accepted : (problem proof bytes : Text) (formulas : List GroundFormula) (size : ℕ) → words ≡ check_words problem proof →
-      ReadsGround files problem formulas → Holds files proof bytes MOST_FILE_BYTES → AcceptsWith formulas bytes size →
+  accepted : (problem proof bytes : Text) (formulas : List GroundFormula) (size : ℕ) →
+      words ≡ check_words problem proof → ReadsGround files problem formulas →
+      Holds files proof bytes MOST_FILE_BYTES → AcceptsWith formulas bytes size →
       Done words files (accepted_text size)
   -- the text is the canonical one of the problem, and reads back as its formulas
   converted : (problem text : Text) (formulas : List Fof) → words ≡ convert_words problem →
-      ReadsProblem files problem formulas → text ≡ problem_text formulas → ReadsBack text formulas → Done words files text
+      ReadsProblem files problem formulas → text ≡ problem_text formulas → ReadsBack text formulas →
+      Done words files text
 
 -- the problem follows in a structure: if its premises are true there, its conjecture is
 abbrev pub ProblemFollows : Structure → Known → Text → Type 0
-ProblemFollows s files problem = IfSome files.held (λ held. (formulas : List Fof) × IsFlat held problem formulas × Follows s formulas)
+ProblemFollows s files problem = IfSome files.held (λ held.
+    (formulas : List Fof) × IsFlat held problem formulas × Follows s formulas)
 
 -- what was put is a text that reads back as the formulas of the problem
 abbrev pub ProblemPrinted : Known → Text → Stream → Stream → Type 0
-ProblemPrinted files problem old new = IfSome files.held (λ held. (formulas : List Fof) × IsFlat held problem formulas ×
+ProblemPrinted files problem old new = IfSome files.held (λ held.
+    (formulas : List Fof) × IsFlat held problem formulas ×
     ((text : Text) × Puts old new text × ReadsBack text formulas))

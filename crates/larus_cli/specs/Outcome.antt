@@ -26,10 +26,12 @@ BreaksAt false old new text = Breaks old.errs new.errs text × (new.out ≡ old.
 
 pub data Outcome (words : List Text) (files later : Known) (old new : Sinks) : ℕ → Type 0 where
   -- an answer was put whole
-  answered : (output : Bool) (text : Text) (status : ℕ) → Answer words files later output text status → PutsTo output old new text →
+  answered : (output : Bool) (text : Text) (status : ℕ) →
+      Answer words files later output text status → PutsTo output old new text →
       Outcome words files later old new status
   -- 74: the sink of an answer failed
-  broken : (output : Bool) (text : Text) (status : ℕ) → Answer words files later output text status → BreaksAt output old new text →
+  broken : (output : Bool) (text : Text) (status : ℕ) →
+      Answer words files later output text status → BreaksAt output old new text →
       Outcome words files later old new 74
   -- 71: want of memory; nothing was written
   out_of_memory : command_of words ≢ None → new ≡ old → Outcome words files later old new 71

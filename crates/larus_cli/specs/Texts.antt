@@ -35,7 +35,7 @@ syntax_text (syntax.Role offset) = at_offset offset (codes ": 9 Role")
 syntax_text (syntax.FreeVariable offset) = at_offset offset (codes ": 10 FreeVariable")
 syntax_text syntax.Memory = []
 
--- what is behind a file's name where it could not be fetched, has too many bytes, or its form is not built yet
+-- what is behind a file's name where it was not fetched, has too many bytes, or is not built yet
 abbrev pub fault_text : Text
 fault_text = ended (codes ": 11 FileFault")
 
@@ -63,4 +63,5 @@ abbrev pub refused_text : Text
 refused_text = ended (codes "refused")
 
 abbrev pub usage_text : Text
-usage_text = ended (codes "44 Usage") ++ ended (codes "check PROBLEM PROOF") ++ ended (codes "convert problem PROBLEM")
+usage_text = ended (codes "44 Usage") ++ ended (codes "check PROBLEM PROOF") ++
+    ended (codes "convert problem PROBLEM")

@@ -13,8 +13,8 @@ pub enum Command {
     ConvertProblem,
 }
 
-/// The command that the words after the program's name are, and `None` exactly where they are no command. Fixed
-/// words are matched byte for byte, and any word is a file name. It takes no memory.
+/// The command that the words after the program's name are, and `None` exactly where they are no
+/// command. Fixed words are matched byte for byte, and any word is a file name. It takes no memory.
 pub fn read_words(words: &[Bytes]) -> Option<Command>
     ensures { result ≡ command_of words.now }
 {
@@ -34,7 +34,8 @@ pub fn read_words(words: &[Bytes]) -> Option<Command>
 
 /// The command that converts what the word names.
 fn conversion(word: &[u8]) -> Option<Command>
-    ensures { result ≡ (if bytes_eq word.now (codes "problem") then Some Command.ConvertProblem else None) }
+    ensures { result ≡ (if bytes_eq word.now (codes "problem")
+        then Some Command.ConvertProblem else None) }
 {
     if word == b"problem".as_slice() {
         Some(Command::ConvertProblem)

@@ -90,8 +90,8 @@ fn refused(alloc: Global, name: &[u8], why: ProofWhy) -> Result<Report, Memory>
 fn read_second<F: Files>(alloc: Global, files: &mut F, name: &[u8]) -> Result<Bytes, Halt>
     ensures holds { IfOk result (λ bytes. Holds (F.known files.old) name.now bytes MOST_FILE_BYTES) }
     ensures halts { (words : Lst Text) (before : Known) (problem : Text) (formulas : Lst Ground)
-        → Grows before (F.known files.old) → NamesBoth words problem name.now → ReadsGround before problem formulas
-        → IfErr result (Halts words before (F.known files.new)) }
+        → Grows before (F.known files.old) → NamesBoth words problem name.now
+        → ReadsGround before problem formulas → IfErr result (Halts words before (F.known files.new)) }
     ensures grows { Grows (F.known files.old) (F.known files.new) }
 {
     match fetch_whole(alloc, files, name) {
@@ -133,11 +133,7 @@ fn check<F: Files>(alloc: Global, words: &[Bytes], files: &mut F) -> Result<Repo
 }
 
 /// What there is to say of a problem that is to be printed.
-fn convert_problem<F: Files>(
-    alloc: Global,
-    words: &[Bytes],
-    files: &mut F,
-) -> Result<Report, Halt>
+fn convert_problem<F: Files>(alloc: Global, words: &[Bytes], files: &mut F) -> Result<Report, Halt>
     requires { command_of words.now ≡ Some Command.ConvertProblem }
     ensures decides { Decides words.now (F.known files.old) (F.known files.new) result }
     ensures grows { Grows (F.known files.old) (F.known files.new) }

@@ -61,7 +61,12 @@ fn syntax(alloc: Global, file: &[u8], refusal: &SyntaxRefusal) -> Result<Bytes, 
         SyntaxRefusal::EndOfText(offset) => at_offset(alloc, file, *offset, b": 7 EndOfText"),
         SyntaxRefusal::TooDeep(offset) => at_offset(alloc, file, *offset, b": 8 TooDeep"),
         SyntaxRefusal::Role(offset) => at_offset(alloc, file, *offset, b": 9 Role"),
-        SyntaxRefusal::FreeVariable(offset) => at_offset(alloc, file, *offset, b": 10 FreeVariable"),
+        SyntaxRefusal::FreeVariable(offset) => at_offset(
+            alloc,
+            file,
+            *offset,
+            b": 10 FreeVariable",
+        ),
         SyntaxRefusal::Memory => Err(Memory),
     }
 }
@@ -133,9 +138,15 @@ pub(crate) fn reply_of(alloc: Global, report: Report) -> Result<Reply, Memory>
         Report::Accepted(size) => answered(accepted(alloc, size)?, 0),
         Report::Refused => answered(named(alloc, b"", b"refused")?, 1),
         Report::Converted(text) => answered(text, 0),
-        Report::FileFault(file) => complained(named(alloc, file.as_slice(), b": 11 FileFault")?, 66),
+        Report::FileFault(file) => complained(
+            named(alloc, file.as_slice(), b": 11 FileFault")?,
+            66,
+        ),
         Report::ProblemFile(refusal) => complained(flat(alloc, &refusal)?, 2),
-        Report::ProblemNotBuilt(file) => complained(named(alloc, file.as_slice(), b": 45 NotBuilt")?, 2),
+        Report::ProblemNotBuilt(file) => complained(
+            named(alloc, file.as_slice(), b": 45 NotBuilt")?,
+            2,
+        ),
         Report::ProofFile(refusal) => complained(proof(alloc, &refusal)?, 3),
     })
 }

@@ -20,7 +20,8 @@ pub enum ProofWhy {
     NotBuilt,
 }
 
-/// What there is to say of a problem, or of a problem and a proof. Files are told by the names that they were asked for with.
+/// What there is to say of a problem, or of a problem and a proof. Files are told by the names by
+/// which they were asked for.
 #[derive(Debug, Drop)]
 pub enum Report {
     /// The proof is accepted, with so many rule applications.
@@ -31,10 +32,10 @@ pub enum Report {
     Converted(Bytes),
     /// This file could not be fetched.
     FileFault(Bytes),
-    /// A file of the problem was fetched, or is not to be, and is refused.
+    /// A file of the problem is refused, for another reason than a fetch that failed.
     ProblemFile(FlatRefusal),
     /// The form of the problem in this file is not built yet.
     ProblemNotBuilt(Bytes),
-    /// The proof's file was fetched and is refused.
+    /// The proof's file is refused, for another reason than a fetch that failed.
     ProofFile(ProofRefusal),
 }

@@ -20,7 +20,7 @@ use std::alloc::Global;
 const USAGE: &[u8] = b"44 Usage\ncheck PROBLEM PROOF\nconvert problem PROBLEM\n";
 
 /// The status for want of memory.
-const OUT_OF_MEMORY: u8 = 71;
+pub(crate) const OUT_OF_MEMORY: u8 = 71;
 
 /// The status for a sink that failed.
 const PUT_FAULT: u8 = 74;
@@ -45,7 +45,8 @@ fn answer<F: Files, O: Sink, E: Sink>(
     errs: &mut E,
 ) -> u8
     ensures outcome { Outcome words.now (F.known files.old) (F.known files.new)
-        (sinks (O.stream out.old) (E.stream errs.old)) (sinks (O.stream out.new) (E.stream errs.new)) result }
+        (sinks (O.stream out.old) (E.stream errs.old))
+        (sinks (O.stream out.new) (E.stream errs.new)) result }
     ensures grows { Grows (F.known files.old) (F.known files.new) }
 {
     let Some(command) = read_words(words) else {
@@ -63,11 +64,12 @@ fn answer<F: Files, O: Sink, E: Sink>(
     }
 }
 
-/// The program: it does what the words, those after the program's name, ask for, with these files and these two
-/// sinks, and answers the status with which it ends. 0: the proof is accepted, or the problem printed. 1: the proof is not
-/// accepted. 2: a file of the problem is refused. 3: the proof's file is refused. 64: the words are no command. 66: a
-/// file could not be fetched. 71: want of memory. 74: the sink of the answer failed. What is said of structures holds in each structure of every
-/// family `W`, which no code can look at.
+/// The program: it does what the words, those after the program's name, ask for, with these files and
+/// these two sinks, and answers the status with which it ends. 0: the proof is accepted, or the
+/// problem printed. 1: the proof is not accepted. 2: a file of the problem is refused. 3: the proof's
+/// file is refused. 64: the words are no command. 66: a file could not be fetched. 71: want of
+/// memory. 74: the sink of the answer failed. What is said of structures holds in each structure of
+/// every family `W`, which no code can look at.
 pub fn run<W: World, F: Files, O: Sink, E: Sink>(
     alloc: Global,
     words: &[Bytes],
@@ -76,13 +78,17 @@ pub fn run<W: World, F: Files, O: Sink, E: Sink>(
     errs: &mut E,
 ) -> u8
     // An accepted proof: the conjecture is true in each structure in which the problem's axioms are.
-    ensures sound { (k : List ℕ) (problem proof : Text) → words.now ≡ codes "check" ∷ problem ∷ proof ∷ [] → result ≡ 0
+    ensures sound { (k : List ℕ) (problem proof : Text)
+        → words.now ≡ codes "check" ∷ problem ∷ proof ∷ [] → result ≡ 0
         → ProblemFollows (structure (W.element k) (W.holds k) (W.place k)) (F.known files.old) problem }
-    // A converted problem: what is printed reads back as the formulas of the problem, so it is true in the same structures.
-    ensures printed { (problem : Text) → words.now ≡ codes "convert" ∷ codes "problem" ∷ problem ∷ [] → result ≡ 0
+    // A converted problem: what is printed reads back as the formulas of the problem, so it is true
+    // in the same structures.
+    ensures printed { (problem : Text)
+        → words.now ≡ codes "convert" ∷ codes "problem" ∷ problem ∷ [] → result ≡ 0
         → ProblemPrinted (F.known files.old) problem (O.stream out.old) (O.stream out.new) }
     ensures outcome { Outcome words.now (F.known files.old) (F.known files.new)
-        (sinks (O.stream out.old) (E.stream errs.old)) (sinks (O.stream out.new) (E.stream errs.new)) result }
+        (sinks (O.stream out.old) (E.stream errs.old))
+        (sinks (O.stream out.new) (E.stream errs.new)) result }
     ensures files_grow { Grows (F.known files.old) (F.known files.new) }
     ensures out_grows { (O.stream out.old).faults ≤ (O.stream out.new).faults }
     ensures errs_grow { (E.stream errs.old).faults ≤ (E.stream errs.new).faults }

@@ -27,7 +27,7 @@ returns-in_err-bytes-clause-decides g c =
 pub returns-in-Ok-clause-decides : goal.returns-in-Ok-clause-decides
 returns-in-Ok-clause-decides g c =
     let holds = holds_before (g.F.Files.known c.args.files.now) (g.F.Files.known c.read_ground.new.files) c.check_names.result.1.now
-      c.in_ok-bytes.bytes c.in_ok-formulas.ensures.grows c.in_ok-bytes.ensures.holds in
+    c.in_ok-bytes.bytes c.in_ok-formulas.ensures.grows c.in_ok-bytes.ensures.holds in
     let is : AcceptsWith c.in_ok-formulas.formulas c.in_ok-bytes.bytes c.in-Ok.size = search rules in
     done _ (accepted c.check_names.result.0.now c.check_names.result.1.now c.in_ok-bytes.bytes c.in_ok-formulas.formulas c.in-Ok.size
     c.check_names.ensures c.in_ok-formulas.ensures.reads holds is)
@@ -35,7 +35,7 @@ returns-in-Ok-clause-decides g c =
 pub returns-in-Err-Refused-clause-decides : goal.returns-in-Err-Refused-clause-decides
 returns-in-Err-Refused-clause-decides g c =
     let holds = holds_before (g.F.Files.known c.args.files.now) (g.F.Files.known c.read_ground.new.files) c.check_names.result.1.now
-      c.in_ok-bytes.bytes c.in_ok-formulas.ensures.grows c.in_ok-bytes.ensures.holds in
+    c.in_ok-bytes.bytes c.in_ok-formulas.ensures.grows c.in_ok-bytes.ensures.holds in
     let is : Refuses c.in_ok-formulas.formulas c.in_ok-bytes.bytes = search rules in
     refused c.check_names.result.0.now c.check_names.result.1.now c.in_ok-bytes.bytes c.in_ok-formulas.formulas c.check_names.ensures
     c.in_ok-formulas.ensures.reads holds is
@@ -43,10 +43,10 @@ returns-in-Err-Refused-clause-decides g c =
 pub returns-in-Err-Lexical-clause-decides : goal.returns-in-Err-Lexical-clause-decides
 returns-in-Err-Lexical-clause-decides g c =
     let holds = holds_before (g.F.Files.known c.args.files.now) (g.F.Files.known c.read_ground.new.files) c.check_names.result.1.now
-      c.in_ok-bytes.bytes c.in_ok-formulas.ensures.grows c.in_ok-bytes.ensures.holds in
+    c.in_ok-bytes.bytes c.in_ok-formulas.ensures.grows c.in_ok-bytes.ensures.holds in
     let is : IsUnread IsGroundProof c.in_ok-bytes.bytes (unread.Lexical c.in-Err-Lexical.refusal) = search rules in
     let same : c.in_ok-report-in-Err-Lexical.report ≡ ProofFile (record { file = c.check_names.result.1.now; why = Lexical c.in-Err-Lexical.refusal }) =
-      search rules in
+    search rules in
     let names = names_check c.args.words.now c.check_names.result.0.now c.check_names.result.1.now c.check_names.ensures in
     subst (IsAnswer c.args.words.now (g.F.Files.known c.args.files.now) (g.F.Files.known c.read_second.new.files)) (sym same)
     (no_tokens c.check_names.result.0.now c.check_names.result.1.now c.in_ok-bytes.bytes c.in_ok-formulas.formulas c.in-Err-Lexical.refusal
@@ -55,7 +55,7 @@ returns-in-Err-Lexical-clause-decides g c =
 pub returns-in-Err-NotBuilt-clause-decides : goal.returns-in-Err-NotBuilt-clause-decides
 returns-in-Err-NotBuilt-clause-decides g c =
     let holds = holds_before (g.F.Files.known c.args.files.now) (g.F.Files.known c.read_ground.new.files) c.check_names.result.1.now
-      c.in_ok-bytes.bytes c.in_ok-formulas.ensures.grows c.in_ok-bytes.ensures.holds in
+    c.in_ok-bytes.bytes c.in_ok-formulas.ensures.grows c.in_ok-bytes.ensures.holds in
     let is = rw (c.in-Err-NotBuilt.field-0-is, c.as_slice-2.ensures) at c.in-Err-NotBuilt.ensures.refused in
     let same : c.in_ok-report-in-Err-NotBuilt.report ≡ ProofFile (record { file = c.check_names.result.1.now; why = NotBuilt }) = search rules in
     let names = names_check c.args.words.now c.check_names.result.0.now c.check_names.result.1.now c.check_names.ensures in

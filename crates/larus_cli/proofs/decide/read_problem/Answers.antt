@@ -10,6 +10,6 @@ pub returns-in_default : goal.returns-in_default
 returns-in_default g c = record {
   reads = tt;
   halts = λ words names. problem_told words (g.F.Files.known c.args.files.now) (g.F.Files.known c.flatten.new.files) c.args.name.now
-    c.in-Err.refusal.file c.in-Err.refusal.why names c.in-Err.ensures.refused c.in_default.not-FileFault c.in_default.not-Memory;
+      c.in-Err.refusal.file c.in-Err.refusal.why names c.in-Err.ensures.refused c.in_default.not-FileFault c.in_default.not-Memory;
   grows = (c.in-Err.ensures.stays c.in_default.not-FileFault).grows;
 }

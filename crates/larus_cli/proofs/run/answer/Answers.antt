@@ -15,14 +15,14 @@ pub returns-then-reply-clause-outcome : goal.returns-then-reply-clause-outcome
 returns-then-reply-clause-outcome g c =
     let good : c.in-Ok.reply.is_output ≡ true = search rules in
     let row = subst (λ output. Answer c.args.words.now (g.F.Files.known c.args.files.now) (g.F.Files.known c.reply_to.new.files) output
-      c.in-Ok.reply.text c.in-Ok.reply.status) good c.in-Ok.ensures.answer in
+    c.in-Ok.reply.text c.in-Ok.reply.status) good c.in-Ok.ensures.answer in
     to_output _ _ _ c.in-Ok.reply.text c.in-Ok.reply.status _ row (rw c.as_slice.ensures at c.put_answer-then-reply.ensures)
 
 pub returns-in-Ok-clause-outcome : goal.returns-in-Ok-clause-outcome
 returns-in-Ok-clause-outcome g c =
     let bad : c.in-Ok.reply.is_output ≡ false = search rules in
     let row = subst (λ output. Answer c.args.words.now (g.F.Files.known c.args.files.now) (g.F.Files.known c.reply_to.new.files) output
-      c.in-Ok.reply.text c.in-Ok.reply.status) bad c.in-Ok.ensures.answer in
+    c.in-Ok.reply.text c.in-Ok.reply.status) bad c.in-Ok.ensures.answer in
     to_errors _ _ _ c.in-Ok.reply.text c.in-Ok.reply.status _ row (rw c.as_slice-else-reply.ensures at c.put_answer-else-reply.ensures)
 
 pub returns-clause-outcome : goal.returns-clause-outcome
