@@ -1,5 +1,5 @@
-//! Adds facts to a store, looks each of them up, and takes all back, as many and as often as the words say. Prints how
-//! many were added and how many were found in the last round.
+//! Adds facts to a store, looks each of them up, and takes all back, as many and as often as the
+//! words say. Prints how many were added and how many were found in the last round.
 
 ghost use Rattle.std.specs.Prelude.{◌≡◌, ◌<◌};
 
@@ -36,7 +36,8 @@ fn find(store: &Store, facts: u32) -> u32 {
     found
 }
 
-/// Fills a store, looks each fact up so often, and takes all back: how many were added, found and left.
+/// Fills a store, looks each fact up so often, and takes all back: how many were added, found and
+/// left.
 fn round(alloc: Global, facts: u32, finds: u32) -> Result<(u32, u32, u32), Memory> {
     let mut store = Store::new(alloc, 2)?;
     let added = fill(&mut store, facts)?;
@@ -48,7 +49,8 @@ fn round(alloc: Global, facts: u32, finds: u32) -> Result<(u32, u32, u32), Memor
     Ok((added, found, store.len()))
 }
 
-/// Takes three numbers: how many facts, how often they are added and taken back, and how often each is looked up.
+/// Takes three numbers: how many facts, how often they are added and taken back, and how often each
+/// is looked up.
 pub(crate) fn run(rt: &HostRuntime, words: &[String]) -> Result<(), Error> {
     let out = rt.stdout();
     let facts = number(words, 0)?;

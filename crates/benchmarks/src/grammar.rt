@@ -1,5 +1,6 @@
-//! How fast the machine reads expressions, by itself and with the values that it builds, beside a plain pass over the same tokens.
-//! With no words it reads short ones and prints no times; the word `time` makes it read up to four million tokens and print them.
+//! How fast the machine reads expressions, by itself and with the values that it builds, beside a
+//! plain pass over the same tokens. With no words it reads short ones and prints no times; the word
+//! `time` makes it read up to four million tokens and print them.
 
 use crate::timing::micros;
 use anyhow::Error;

@@ -1,5 +1,5 @@
-//! Times `tokens` and `read_items` on the bytes of files, beside counting the line feeds of the same bytes; bench/items
-//! makes the files.
+//! Times `tokens` and `read_items` on the bytes of files, beside counting the line feeds of the
+//! same bytes; bench/items makes the files.
 
 use crate::timing::{counting, micros};
 use anyhow::Error;

@@ -1,5 +1,6 @@
-//! Programs that the scripts of bench/ time, one for each word: `tokens FILE..`, `items FILE..`, `trees [ROUNDS]`,
-//! `grammar [time]` and `facts [FACTS [FILLS [FINDS]]]`. Other words give 64 and the list of these.
+//! Programs that the scripts of bench/ time, one for each word: `tokens FILE..`, `items FILE..`,
+//! `trees [ROUNDS]`, `grammar [time]` and `facts [FACTS [FILLS [FINDS]]]`. Other words give 64 and
+//! the list of these.
 #![tactic(auto)]
 
 use anyhow::Error;

@@ -1,4 +1,5 @@
-//! Times `tokens` on the bytes of files, beside counting the line feeds of the same bytes; bench/tokens makes the files.
+//! Times `tokens` on the bytes of files, beside counting the line feeds of the same bytes;
+//! bench/tokens makes the files.
 
 use crate::timing::{counting, micros};
 use anyhow::Error;

@@ -1,5 +1,6 @@
-//! Takes two large trees through the calls of `Proof`, as often as the word says, or once: 65,536 rule applications in a
-//! row, and 200 splits within one another. Prints how many applications each has.
+//! Takes two large trees through the calls of `Proof`, as often as the word says, or once: 65,536
+//! rule applications in a row, and 200 splits within one another. Prints how many applications each
+//! has.
 
 use crate::number;
 use anyhow::Error;
@@ -31,7 +32,8 @@ fn row(alloc: Global) -> Result<List<Node>, Memory> {
     Ok(nodes)
 }
 
-/// As many splits within one another as a proof may have, each after 300 applications and with two branches.
+/// As many splits within one another as a proof may have, each after 300 applications and with two
+/// branches.
 fn nest(alloc: Global) -> Result<List<Node>, Memory> {
     let mut nodes = List::new(alloc);
     for _ in 0..200 {
@@ -48,7 +50,8 @@ fn nest(alloc: Global) -> Result<List<Node>, Memory> {
     Ok(nodes)
 }
 
-/// Reads the nodes, copies the proof, lists the copy's nodes and reads them again, round after round.
+/// Reads the nodes, copies the proof, lists the copy's nodes and reads them again, round after
+/// round.
 fn go_through(alloc: Global, nodes: &List<Node>, rounds: u32) -> Result<u32, TreeRefusal> {
     let mut size = 0;
     for _ in 0..rounds {

@@ -1,4 +1,5 @@
-//! Calls each public function of the crates, with answers that the formats and worked examples give: a file for each crate.
+//! Calls each public function of the crates, with answers that the formats and worked examples
+//! give: a file for each crate.
 #![tactic(auto)]
 
 #[cfg(test)]

@@ -1,4 +1,4 @@
-ghost use Rattle.std.specs.Prelude.{◌≡◌, ◌+◌, ◌-◌, ◌<◌, ◌≤◌, ◌^◌, [], ◌∷◌, vec_len, vec_capacity, ◌++◌, length, take, slice_get, slice_index, Some, None, replicate, IfOk, OnOk, OnErr};
+ghost use Rattle.std.specs.Prelude.{◌≡◌, ◌+◌, ◌-◌, ◌<◌, ◌≤◌, ◌^◌, [], ◌∷◌, vec_len, vec_capacity, ◌++◌, length, take, slice_index, Some, None, replicate, IfOk, OnOk, OnErr};
 ghost use Rattle.fact_store.specs.Chains.{latest};
 
 use std::alloc::Global;

@@ -36,7 +36,7 @@ module _ (held : Held) where
     one_walk _ selections file _ _ (read {left = left} {entries = es} bytes some short walk) (read {entries = fs} also here few other) =
         let same : bytes ≡ also = cc in
         let rest : es ≡ fs = one_of_bytes left selections file bytes es fs walk
-            (subst (λ (bs : Text). WalksBytes held left selections file bs fs) (sym same) other) in
+        (subst (λ (bs : Text). WalksBytes held left selections file bs fs) (sym same) other) in
         λ i. fetched file (length (same i)) ∷ rest i
 
     -- bytes have one walk

@@ -223,8 +223,7 @@ module _ (held : Held) (left : ℕ) (selections : Selections) (file : Text) (ite
       IsTooMany now selections fof → Refuses (over_items left selections file items held) before file TooManyFormulas
   formula_refused fof rest now p many =
       let more = some_walk_of_items held left selections file rest in
-      let kept = kept_entries file selections fof in
-      (
+      let kept = kept_entries file selections fof in (
         p.entries ++ (kept ++ more.entries),
         p.lead (kept ++ more.entries) (formula fof more.entries more.walk refl),
         decided_on before now p.entries (kept ++ more.entries) p.passed ∙

@@ -20,9 +20,11 @@ decision_after bytes formulas [] = None
 decision_after bytes formulas (missing file ∷ entries) = Some (is_missing file)
 decision_after bytes formulas (stop file why ∷ entries) = Some (is_refused file why)
 decision_after bytes formulas (fetched file n ∷ entries) =
-    if nat_lt MOST_PROBLEM_BYTES (bytes + n) then Some (is_refused file AllTooLong) else decision_after (bytes + n) formulas entries
+    if nat_lt MOST_PROBLEM_BYTES (bytes + n) then Some (is_refused file AllTooLong)
+    else decision_after (bytes + n) formulas entries
 decision_after bytes formulas (kept file fof ∷ entries) =
-    if nat_le MOST_FORMULAS formulas then Some (is_refused file TooManyFormulas) else decision_after bytes (formulas + 1) entries
+    if nat_le MOST_FORMULAS formulas then Some (is_refused file TooManyFormulas)
+    else decision_after bytes (formulas + 1) entries
 
 abbrev pub decision : List Entry → Option Decision
 decision entries = decision_after 0 0 entries

@@ -37,7 +37,8 @@ AreBytesOf bytes items = (ts : List Token) × AreTokens bytes ts × AreItemsOf t
 -- the bytes are a text of no items, or memory ran out
 abbrev pub IsTextRefusal : Text → FlatWhy → Type 0
 IsTextRefusal bytes (Lex refusal) = LexFault bytes refusal
-IsTextRefusal bytes (Syntax refusal) = (ts : List Token) × AreTokens bytes ts × SyntaxFault (record { source = bytes; tokens = ts }) refusal
+IsTextRefusal bytes (Syntax refusal) = (ts : List Token) × AreTokens bytes ts ×
+    SyntaxFault (record { source = bytes; tokens = ts }) refusal
 IsTextRefusal bytes Memory = Unit {0}
 IsTextRefusal bytes why = ⊥
 

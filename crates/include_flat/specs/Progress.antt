@@ -1,5 +1,5 @@
 -- How a part of a walk goes on from what was walked before.
-use Rattle.std.specs.Prelude.{ℕ, suc, ◌+◌, ◌≡◌, ◌≤◌, List, [], ◌∷◌, ◌++◌, length, Option, Some, None, IfSome}
+use Rattle.std.specs.Prelude.{ℕ, suc, ◌+◌, ◌≡◌, ◌≤◌, ◌⊎◌, List, [], ◌∷◌, ◌++◌, length, Option, Some, None, IfSome}
 use Rattle.std.specs.FinMap as finite
 use Rattle.text_core.specs.declared.limits.TheConstants.{MOST_FILE_BYTES}
 use Rattle.text_core.specs.Names.{Text}
@@ -49,7 +49,8 @@ abbrev pub over_file : ℕ → Selections → Text → Held → List Entry → T
 over_file left selections file held entries = WalksFile held left selections file entries
 
 abbrev pub over_items : ℕ → Selections → Text → List Item → Held → List Entry → Type 0
-over_items left selections file items held entries = WalksItems held left selections file items entries
+over_items left selections file items held entries =
+    WalksItems held left selections file items entries
 
 -- a part of a walk is passed
 pub record PassesPart (Part : List Entry → Type 0) (before after : Walked) : Type 0 where
@@ -71,14 +72,17 @@ pub record RefusesOver (Part : Held → List Entry → Type 0) (files later : Kn
   pub ends : IfSome files.held (λ held. Refuses (Part held) before file why)
 
 -- a file is fetched, and its bytes are a text of these items
-pub record OpensTo (held : Held) (file : Text) (items : List Item) (before after : Walked) : Type 0 where
+pub record OpensTo (held : Held) (file : Text) (items : List Item)
+    (before after : Walked) : Type 0 where
   pub bytes : Text
   pub held_is : finite.get held file ≡ Some bytes
   pub short : length bytes ≤ MOST_FILE_BYTES
   pub read : AreBytesOf bytes items
   pub passed : Passes before (fetched file (length bytes) ∷ []) after
 
-pub record Opens (files later : Known) (file : Text) (items : List Item) (before after : Walked) : Type 0 where
+-- the same, where it is known what is held, and what that leaves of the files
+pub record Opens (files later : Known) (file : Text) (items : List Item)
+    (before after : Walked) : Type 0 where
   pub stays : Stays files later
   pub opens : IfSome files.held (λ held. OpensTo held file items before after)
 
@@ -92,7 +96,9 @@ pub record IsRefusedAt (held : Held) (file : Text) (before : Walked) (why : Flat
   pub anywhere : (left : ℕ) (selections : Selections) →
       Refuses (WalksFile held (suc left) selections file) before (refused_file file why) why
 
-pub record Refused (files later : Known) (file : Text) (before : Walked) (why : FlatWhy) : Type 0 where
+-- the same, where it is known what is held, and what that leaves of the files
+pub record Refused (files later : Known) (file : Text) (before : Walked)
+    (why : FlatWhy) : Type 0 where
   pub leaves : Leaves files later file why
   pub memory : TellsMemoryAlone (refused_file file why) why
   pub ends : IfSome files.held (λ held. IsRefusedAt held file before why)
@@ -100,7 +106,13 @@ pub record Refused (files later : Known) (file : Text) (before : Walked) (why : 
 -- a formula is one too many, in whatever file it is
 abbrev pub IsTooMany : Walked → Selections → Fof → Type 0
 IsTooMany before selections fof =
-    (file : Text) → decided before (kept_entries file selections fof) ≡ Some (is_refused file TooManyFormulas)
+    (file : Text) →
+    decided before (kept_entries file selections fof) ≡ Some (is_refused file TooManyFormulas)
+
+-- a formula is not kept for this reason
+abbrev pub IsNotKept : Walked → Selections → Fof → FlatWhy → Type 0
+IsNotKept before selections fof why =
+    (why ≡ Memory) ⊎ ((why ≡ TooManyFormulas) × IsTooMany before selections fof)
 
 -- the selections of a set of names, if there is one
 abbrev pub selections_of : Option (List Text) → Selections

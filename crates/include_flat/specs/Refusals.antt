@@ -1,4 +1,5 @@
--- How a walk is refused: by the refusal that decides it, by a fetch that failed, or for want of memory.
+-- How a walk is refused: by the refusal that decides it, by a fetch that failed, or for want of
+-- memory.
 use Rattle.std.specs.Prelude.{◌≡◌, ◌⊎◌, List, [], ◌∷◌, ◌++◌, Some, None}
 use Rattle.text_core.specs.Names.{Text}
 use Rattle.io_core.specs.Held.{Held}
@@ -31,8 +32,8 @@ abbrev pub IsAskedFor : Held → Text → Text → Type 0
 IsAskedFor held name file = (front : List Entry) × (entry : Entry) × (back : List Entry) ×
     Walks held name (front ++ entry ∷ back) × AsksFor file entry × (decision front ≡ None)
 
--- a refusal of the files is the one that decides the walk; a fault of a fetch is told of a file that was asked for; want of memory
--- may come anywhere
+-- a refusal of the files is the one that decides the walk; a fault of a fetch is told of a file
+-- that was asked for; want of memory may come anywhere
 abbrev pub IsFlatRefusal : Held → Text → Text → FlatWhy → Type 0
 IsFlatRefusal held name file Memory = file ≡ []
 IsFlatRefusal held name file FileFault = IsAskedFor held name file

@@ -1,5 +1,5 @@
--- The walk over a problem's file and the files that it includes, entry by entry in the order in which
--- the items are written. Each file has one walk: it goes on behind a file that is refused.
+-- The walk over a problem's file and the files that it includes, entry by entry in the order in
+-- which the items are written. Each file has one walk: it goes on behind a file that is refused.
 use Rattle.std.specs.Prelude.{ℕ, zero, suc, ◌≡◌, ◌≤◌, ◌<◌, Bool, List, [], ◌∷◌, ◌++◌, length, Option, Some, None, if◌then◌else◌}
 use Rattle.std.specs.List.{list_all, list_any}
 use Rattle.std.specs.Str.{bytes_eq}
@@ -59,32 +59,36 @@ module _ (held : Held) where
       too_long : {left : ℕ} {selections : Selections} {file : Text} (bytes : Text) →
           finite.get held file ≡ Some bytes → MOST_FILE_BYTES < length bytes →
           WalksFile (suc left) selections file (stop file FileTooLong ∷ [])
-      read : {left : ℕ} {selections : Selections} {file : Text} {entries : List Entry} (bytes : Text) →
-          finite.get held file ≡ Some bytes → length bytes ≤ MOST_FILE_BYTES →
+      read : {left : ℕ} {selections : Selections} {file : Text} {entries : List Entry}
+          (bytes : Text) → finite.get held file ≡ Some bytes → length bytes ≤ MOST_FILE_BYTES →
           WalksBytes left selections file bytes entries →
           WalksFile (suc left) selections file (fetched file (length bytes) ∷ entries)
 
     -- the walk over the bytes of a file
     pub data WalksBytes : ℕ → Selections → Text → Text → List Entry → Type 0 where
       no_tokens : {left : ℕ} {selections : Selections} {file bytes : Text} (refusal : LexRefusal) →
-          LexFault bytes refusal → WalksBytes left selections file bytes (stop file (Lex refusal) ∷ [])
+          LexFault bytes refusal →
+          WalksBytes left selections file bytes (stop file (Lex refusal) ∷ [])
       no_items : {left : ℕ} {selections : Selections} {file bytes : Text} (ts : List Token)
           (refusal : SyntaxRefusal) → AreTokens bytes ts →
           SyntaxFault (record { source = bytes; tokens = ts }) refusal →
           WalksBytes left selections file bytes (stop file (Syntax refusal) ∷ [])
       with_items : {left : ℕ} {selections : Selections} {file bytes : Text} {entries : List Entry}
           (ts : List Token) (items : List Item) → AreTokens bytes ts → AreItemsOf ts items →
-          WalksItems left selections file items entries → WalksBytes left selections file bytes entries
+          WalksItems left selections file items entries →
+          WalksBytes left selections file bytes entries
 
     -- the walk over items of a file, in order
     pub data WalksItems : ℕ → Selections → Text → List Item → List Entry → Type 0 where
-      end : {left : ℕ} {selections : Selections} {file : Text} → WalksItems left selections file [] []
-      formula : {left : ℕ} {selections : Selections} {file : Text} {items : List Item} {all : List Entry}
-          (fof : Fof) (rest : List Entry) → WalksItems left selections file items rest →
+      end : {left : ℕ} {selections : Selections} {file : Text} →
+          WalksItems left selections file [] []
+      formula : {left : ℕ} {selections : Selections} {file : Text} {items : List Item}
+          {all : List Entry} (fof : Fof) (rest : List Entry) →
+              WalksItems left selections file items rest →
           all ≡ kept_entries file selections fof ++ rest →
           WalksItems left selections file (ItemFof fof ∷ items) all
-      inclusion : {left : ℕ} {selections : Selections} {file : Text} {items : List Item} {all : List Entry}
-          (name : Text) (only : Option (List Text)) (front rest : List Entry) →
+      inclusion : {left : ℕ} {selections : Selections} {file : Text} {items : List Item}
+          {all : List Entry} (name : Text) (only : Option (List Text)) (front rest : List Entry) →
           WalksFile left (with_selection only selections) name front →
           WalksItems left selections file items rest → all ≡ front ++ rest →
           WalksItems left selections file (Include name only ∷ items) all

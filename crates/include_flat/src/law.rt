@@ -10,7 +10,8 @@ ghost use Rattle.include_flat.specs.Refusals.{IsDecided, IsFlatRefused};
 
 /// A problem's file has one flat problem at most.
 pub fn one_flat_problem()
-    ensures { (held : Held) (name : Text) (a b : List Fof) → IsFlat held name a → IsFlat held name b → a ≡ b }
+    ensures { (held : Held) (name : Text) (a b : List Fof)
+        → IsFlat held name a → IsFlat held name b → a ≡ b }
 {}
 
 /// No refusal decides the walk over a problem's file that has a flat problem.
@@ -26,8 +27,10 @@ pub fn one_deciding_refusal()
         → (file ≡ other) × (why ≡ reason) }
 {}
 
-/// A problem's file has a flat problem, or something decides the walk over it: a missing file or a refusal.
+/// A problem's file has a flat problem, or something decides the walk over it: a missing file or a
+/// refusal.
 pub fn flat_or_decided()
     ensures { (held : Held) (name : Text)
-        → ((problem : List Fof) × IsFlat held name problem) ⊎ ((decided : Decision) × IsDecided held name decided) }
+        → ((problem : List Fof) × IsFlat held name problem)
+        ⊎ ((decided : Decision) × IsDecided held name decided) }
 {}

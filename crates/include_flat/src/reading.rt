@@ -31,7 +31,8 @@ pub(crate) fn fetched_items<F: Files>(
 ) -> Result<Items, FlatWhy>
     ensures opens { IfOk result (λ items.
         Opens (F.known files.old) (F.known files.new) name.now items walked.old walked.new) }
-    ensures refused { IfErr result (λ why. Refused (F.known files.old) (F.known files.new) name.now walked.old why) }
+    ensures refused { IfErr result (λ why.
+        Refused (F.known files.old) (F.known files.new) name.now walked.old why) }
 {
     let bytes = fetch_whole(alloc, files, name)?;
     walked.count(bytes.len())?;

@@ -9,7 +9,8 @@ use std::alloc::Global;
 use tptp_grammar::SyntaxRefusal;
 use tptp_lexer::LexRefusal;
 
-/// Why a problem's files are refused, and the file that is. Want of memory comes with an empty file.
+/// Why a problem's files are refused, and the file that is. Want of memory comes with an empty
+/// file.
 #[derive(Debug, Drop)]
 pub struct FlatRefusal {
     pub file: Bytes,
@@ -25,13 +26,13 @@ pub enum FlatWhy {
     Syntax(SyntaxRefusal),
     /// It could not be fetched.
     FileFault,
-    /// It has more than 4,194,304 bytes.
+    /// It has more than `MOST_FILE_BYTES` bytes.
     FileTooLong,
-    /// With it the files have more than 8,388,608 bytes, each fetch counted.
+    /// With it the files have more than `MOST_PROBLEM_BYTES` bytes, each fetch counted.
     AllTooLong,
-    /// It is included at depth 17.
+    /// It would be one more than `MOST_FILES` files that are included one in another.
     IncludeDepth,
-    /// A formula in it would be the 65,537th that is kept.
+    /// With a formula in it more than `MOST_FORMULAS` would be kept.
     TooManyFormulas,
     /// Memory ran out.
     Memory,

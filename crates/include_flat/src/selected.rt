@@ -7,7 +7,8 @@ use logic_core::{List, Memory, Name};
 use std::alloc::Global;
 use std::marker::Model;
 
-/// The names that are in every selection on the way from the first file, where there is one. Contracts see the list of these names.
+/// The names that are in every selection on the way from the first file, where there is one.
+/// Contracts see the list of these names.
 #[derive(Drop)]
 pub(crate) struct Selected {
     names: Option<IndexSet<Name>>,
@@ -42,7 +43,8 @@ impl Selected {
 
     /// The names that are in one more selection too. `Memory` is want of memory.
     pub(crate) fn within(&self, alloc: Global, only: List<Name>) -> Result<Selected, Memory>
-        ensures { IfOk result (λ inner. AreAlike (selections_of inner) (only ∷ selections_of self.now)) }
+        ensures { IfOk result (λ inner.
+            AreAlike (selections_of inner) (only ∷ selections_of self.now)) }
     {
         let mut names = IndexSet::new(alloc);
         for name in only.into_vec() {

@@ -8,7 +8,7 @@ ghost use Rattle.logic_core.specs.Allowed.{FofIsAllowed};
 ghost use Rattle.include_flat.specs.Flattened.{IsFlat};
 ghost use Rattle.include_flat.specs.Refusals.{IsFlatRefused, IsFlatRefusal, IsOutside, TellsMemoryAlone};
 ghost use Rattle.include_flat.specs.Walks.{with_selection, kept_entries};
-ghost use Rattle.include_flat.specs.Progress.{selections_of, over_file, over_items, Passes, IsTooMany, PassesOver, RefusesOver};
+ghost use Rattle.include_flat.specs.Progress.{selections_of, over_file, over_items, Passes, IsNotKept, PassesOver, RefusesOver};
 
 use crate::reading::fetched_items;
 use crate::refusal::{FlatRefusal, FlatWhy};
@@ -19,21 +19,28 @@ use logic_core::{Bytes, Fof, Item, Items, List, Name, Problem};
 use std::alloc::Global;
 use text_core::MOST_FILES;
 
-/// The formulas of a problem's file, with those of each included file in the place of its inclusion, in order. A formula is kept where
-/// its name is in every selection on the way from the first file. Each inclusion fetches its file anew.
+/// The formulas of a problem's file, with those of each included file where it is included, in
+/// order. A formula is kept where its name is in every selection on the way from the first file.
+/// Each inclusion fetches its file anew.
 ///
-/// The refusal tells the file: one that could not be fetched, only where the files' count of faults rose; one of more than 4,194,304
-/// bytes, one with which all fetched bytes are more than 8,388,608, one at depth 17, one with a 65,537th formula to keep; and one that
-/// has no tokens, or whose tokens are no text of items. `Memory` is want of memory. Source: the TPTP syntax, `include`.
+/// The refusal tells the file: one that could not be fetched, only where the files' count of faults
+/// rose; one of more than `MOST_FILE_BYTES`, one with which all fetched bytes are more than
+/// `MOST_PROBLEM_BYTES`, one more than `MOST_FILES` that are included one in another, one with a
+/// formula that would be kept beyond `MOST_FORMULAS`; and one that has no tokens, or whose tokens
+/// are no text of items. `Memory` is want of memory. Source: the TPTP syntax, `include`.
 pub fn flatten<F: Files>(alloc: Global, files: &mut F, name: &[u8]) -> Result<Problem, FlatRefusal>
     ensures flat { IfSome (F.known files.old).held (λ held. IfOk result (IsFlat held name.now)) }
     ensures refused { IfSome (F.known files.old).held (λ held.
         IfErr result (λ refusal. IsFlatRefusal held name.now refusal.file refusal.why)) }
-    // Where nothing decides the walk, the answer is its formulas, unless the outside fails or memory runs out.
-    ensures found { IfSome (F.known files.old).held (λ held. (problem : Lst Formula) → IsFlat held name.now problem
+    // Where nothing decides the walk, the answer is its formulas, unless the outside fails or
+    // memory runs out.
+    ensures found { IfSome (F.known files.old).held (λ held.
+        (problem : Lst Formula) → IsFlat held name.now problem
         → MatchResult result (λ read. read ≡ problem) (λ refusal. IsOutside refusal.why)) }
-    // Where a refusal decides the walk, the answer is that one, unless the outside fails or memory runs out.
-    ensures told { IfSome (F.known files.old).held (λ held. (file : Text) (why : Why) → IsFlatRefused held name.now file why
+    // Where a refusal decides the walk, the answer is that one, unless the outside fails or memory
+    // runs out.
+    ensures told { IfSome (F.known files.old).held (λ held.
+        (file : Text) (why : Why) → IsFlatRefused held name.now file why
         → MatchResult result (λ read. ⊥)
         (λ refusal. IsOutside refusal.why ⊎ ((refusal.file ≡ file) × (refusal.why ≡ why)))) }
     ensures memory { IfErr result (λ refusal. TellsMemoryAlone refusal.file refusal.why) }
@@ -61,9 +68,11 @@ fn walk_file<F: Files>(
     selected: &Selected,
     left: u32,
 ) -> Result<(), FlatRefusal>
-    ensures passes { IfOk result (λ done. PassesOver (over_file left (selections_of selected.now) name.now)
+    ensures passes { IfOk result (λ done.
+        PassesOver (over_file left (selections_of selected.now) name.now)
         (F.known files.old) (F.known files.new) walked.old walked.new) }
-    ensures refused { IfErr result (λ refusal. RefusesOver (over_file left (selections_of selected.now) name.now)
+    ensures refused { IfErr result (λ refusal.
+        RefusesOver (over_file left (selections_of selected.now) name.now)
         (F.known files.old) (F.known files.new) walked.old refusal.file refusal.why) }
 {
     let file = match Bytes::from_slice(alloc, name) {
@@ -90,9 +99,11 @@ fn walk_items<F: Files>(
     selected: &Selected,
     left: u32,
 ) -> Result<(), FlatRefusal>
-    ensures passes { IfOk result (λ done. PassesOver (over_items left (selections_of selected.now) file items)
+    ensures passes { IfOk result (λ done.
+        PassesOver (over_items left (selections_of selected.now) file items)
         (F.known files.old) (F.known files.new) walked.old walked.new) }
-    ensures refused { IfErr result (λ refusal. RefusesOver (over_items left (selections_of selected.now) file items)
+    ensures refused { IfErr result (λ refusal.
+        RefusesOver (over_items left (selections_of selected.now) file items)
         (F.known files.old) (F.known files.new) walked.old refusal.file refusal.why) }
 {
     for item in items.into_list().into_vec() {
@@ -121,9 +132,11 @@ fn walk_inclusion<F: Files>(
     selected: &Selected,
     left: u32,
 ) -> Result<(), FlatRefusal>
-    ensures passes { IfOk result (λ done. PassesOver (over_file left (with_selection only (selections_of selected.now)) name)
+    ensures passes { IfOk result (λ done.
+        PassesOver (over_file left (with_selection only (selections_of selected.now)) name)
         (F.known files.old) (F.known files.new) walked.old walked.new) }
-    ensures refused { IfErr result (λ refusal. RefusesOver (over_file left (with_selection only (selections_of selected.now)) name)
+    ensures refused { IfErr result (λ refusal.
+        RefusesOver (over_file left (with_selection only (selections_of selected.now)) name)
         (F.known files.old) (F.known files.new) walked.old refusal.file refusal.why) }
 {
     match only {
@@ -138,8 +151,9 @@ fn walk_inclusion<F: Files>(
 /// Keeps a formula whose name is in every selection.
 fn keep_selected(walked: &mut Walked, selected: &Selected, fof: Fof) -> Result<(), FlatWhy>
     requires { FofIsAllowed fof }
-    ensures passes { OnOk result ((file : Text) → Passes walked.old (kept_entries file (selections_of selected.now) fof) walked.new) }
-    ensures refused { IfErr result (λ why. (why ≡ whys.Memory) ⊎ ((why ≡ whys.TooManyFormulas) × IsTooMany walked.old (selections_of selected.now) fof)) }
+    ensures passes { OnOk result ((file : Text) →
+        Passes walked.old (kept_entries file (selections_of selected.now) fof) walked.new) }
+    ensures refused { IfErr result (IsNotKept walked.old (selections_of selected.now) fof) }
 {
     if selected.has(&fof.name) {
         walked.keep(fof)?;

@@ -49,7 +49,8 @@ impl Walked {
         ensures kept { OnOk result (self.new.problem ≡ self.old.problem ++ fof ∷ []) }
         ensures few { OnOk result (length self.old.problem < MOST_FORMULAS) }
         ensures bytes { self.new.bytes ≡ self.old.bytes }
-        ensures refused { IfErr result (λ why. (why ≡ whys.Memory) ⊎ ((why ≡ whys.TooManyFormulas) × (MOST_FORMULAS ≤ length self.old.problem))) }
+        ensures refused { IfErr result (λ why. (why ≡ whys.Memory)
+            ⊎ ((why ≡ whys.TooManyFormulas) × (MOST_FORMULAS ≤ length self.old.problem))) }
     {
         if self.problem.as_slice().len() >= MOST_FORMULAS as usize {
             return Err(FlatWhy::TooManyFormulas);

@@ -10,7 +10,8 @@ pub record Counts : Type 0 where
 
 -- of the files of the system only the counts are known
 abbrev pub counts_known : Counts → Known
-counts_known counts = record { held = None; blamed = None; faults = counts.faults; given = counts.given }
+counts_known counts =
+    record { held = None; blamed = None; faults = counts.faults; given = counts.given }
 
 -- how many faults a writer's sink had, and the bytes that its writer holds, where the writer says
 pub record Written : Type 0 where

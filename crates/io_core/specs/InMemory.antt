@@ -30,18 +30,26 @@ pub record StoredFiles : Type 0 where
 abbrev pub stored_files_code : Coded StoredFiles
 stored_files_code =
     code_by (Held × (ℕ × (ℕ × (Text × (List ℕ × ℕ)))))
-    (coded× (finite.code (coded_list coded_ℕ) (coded_list coded_ℕ)) (coded× coded_ℕ (coded× coded_ℕ (coded× (coded_list coded_ℕ) (coded× (coded_list coded_ℕ) coded_ℕ)))))
+    (coded× (finite.code (coded_list coded_ℕ) (coded_list coded_ℕ)) (coded× coded_ℕ
+    (coded× coded_ℕ (coded× (coded_list coded_ℕ) (coded× (coded_list coded_ℕ) coded_ℕ)))))
     (λ f. (f.held, (f.faults, (f.given, (f.blamed, (f.failing, f.fetches))))))
-    (λ t. record { held = t.0; faults = t.1.0; given = t.1.1.0; blamed = t.1.1.1.0; failing = t.1.1.1.1.0; fetches = t.1.1.1.1.1 })
+    (λ t. record { held = t.0; faults = t.1.0; given = t.1.1.0; blamed = t.1.1.1.0; failing =
+        t.1.1.1.1.0; fetches = t.1.1.1.1.1 })
     (λ _. refl)
 
 -- stored files are known whole
 abbrev pub stored_known : StoredFiles → Known
-stored_known files = record { held = Some files.held; blamed = Some files.blamed; faults = files.faults; given = files.given }
+stored_known files = record {
+  held = Some files.held;
+  blamed = Some files.blamed;
+  faults = files.faults;
+  given = files.given;
+}
 
 -- what the next fetch finds under a name: nothing where it is to fail, and else the held bytes
 abbrev pub found : StoredFiles → Text → Option (List ℕ)
-found files name = if list_any (λ n. n == files.fetches) files.failing then None else finite.get files.held name
+found files name =
+    if list_any (λ n. n == files.fetches) files.failing then None else finite.get files.held name
 
 -- the count of bytes handed over after a fetch that found this; nothing found adds nothing
 abbrev pub given_after : StoredFiles → Option (List ℕ) → ℕ
@@ -65,7 +73,8 @@ pub record StoredSink : Type 0 where
 abbrev pub stored_stream : StoredSink → Stream
 stored_stream sink = record { contents = Some sink.contents; faults = sink.faults }
 
--- how many bytes the next put appends at most where it is to fail; of several entries the first counts
+-- how many bytes the next put appends at most where it is to fail; of several entries the first
+-- counts
 abbrev pub listed : StoredSink → Option ℕ
 listed sink = option_map (λ e. e.1) (find (λ e. e.0 == sink.puts) sink.failing)
 
@@ -73,7 +82,8 @@ listed sink = option_map (λ e. e.1) (find (λ e. e.0 == sink.puts) sink.failing
 abbrev pub free : StoredSink → ℕ
 free sink = sink.room - length sink.contents
 
--- how many bytes of a piece the next put appends: what fits, and of a listed put no more than is listed
+-- how many bytes of a piece the next put appends: what fits, and of a listed put no more than is
+-- listed
 abbrev pub taken : StoredSink → List ℕ → ℕ
 taken sink piece = min (min (free sink) (length piece)) (unwrap_or (listed sink) (length piece))
 

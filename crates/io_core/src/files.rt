@@ -27,14 +27,15 @@ impl From<Memory> for FetchFault {
 
 /// A source of whole files.
 pub trait Files {
-    /// What is known of the files: what they hold and the last name that they blame, where they tell it, and the
-    /// counts of their faults and of the bytes that they handed over. No count ever falls, and each stays at its
-    /// greatest value.
+    /// What is known of the files: what they hold and the last name that they blame, where they
+    /// tell it, and the counts of their faults and of the bytes that they handed over. No count
+    /// ever falls, and each stays at its greatest value.
     ghost known: { Self → Known };
 
-    /// Appends the bytes of the file with this name to `into`, if they are at most `most`. After each fault
-    /// `into` is as before. `Failed` comes only where the count of faults rose, `TooLong` only where more than
-    /// `most` bytes were handed over, and `Memory` is want of memory.
+    /// Appends the bytes of the file with this name to `into`, if they are at most `most`. After
+    /// each fault `into` is as before. `Failed` comes only where the count of faults rose,
+    /// `TooLong` only where more than `most` bytes were handed over, and `Memory` is want of
+    /// memory.
     fn fetch(
         &mut self,
         alloc: Global,
@@ -43,23 +44,30 @@ pub trait Files {
         into: &mut Bytes,
     ) -> Result<(), FetchFault>
         ensures fetched { OnOk result (Fetches most name.now (known self.old) into.old into.new) }
-        ensures failed { IsErrOf result FetchFault.Failed → Fails (known self.old) (known self.new) name.now }
-        ensures too_long { IsErrOf result FetchFault.TooLong → IsTooLong most name.now (known self.old) (known self.new) }
-        ensures stays { ¬ (IsErrOf result FetchFault.Failed) → Stays (known self.old) (known self.new) }
+        ensures failed { IsErrOf result FetchFault.Failed
+            → Fails (known self.old) (known self.new) name.now }
+        ensures too_long { IsErrOf result FetchFault.TooLong
+            → IsTooLong most name.now (known self.old) (known self.new) }
+        ensures stays { ¬ (IsErrOf result FetchFault.Failed)
+            → Stays (known self.old) (known self.new) }
         ensures into_stays { OnErr result (into.new ≡ into.old) };
 
     /// The blamed name is told exactly where it is told what is held.
     ghost told: { (files : Self) → is_some (known files).blamed ≡ is_some (known files).held };
 }
 
-/// The bytes of the file with this name, at most `MOST_FILE_BYTES`. `Failed` comes only where the count of
-/// faults rose, `TooLong` only where more bytes were handed over, and `Memory` is want of memory.
+/// The bytes of the file with this name, at most `MOST_FILE_BYTES`. `Failed` comes only where the
+/// count of faults rose, `TooLong` only where more bytes were handed over, and `Memory` is want of
+/// memory.
 pub fn fetch_whole<F: Files>(alloc: Global, files: &mut F, name: &[u8]) -> Result<Bytes, FetchFault>
-    ensures holds { IfOk result (λ bytes. Holds (F.known files.old) name.now bytes MOST_FILE_BYTES) }
-    ensures failed { IsErrOf result FetchFault.Failed → Fails (F.known files.old) (F.known files.new) name.now }
+    ensures holds { IfOk result (λ bytes.
+        Holds (F.known files.old) name.now bytes MOST_FILE_BYTES) }
+    ensures failed { IsErrOf result FetchFault.Failed
+        → Fails (F.known files.old) (F.known files.new) name.now }
     ensures too_long { IsErrOf result FetchFault.TooLong
         → IsTooLong MOST_FILE_BYTES name.now (F.known files.old) (F.known files.new) }
-    ensures stays { ¬ (IsErrOf result FetchFault.Failed) → Stays (F.known files.old) (F.known files.new) }
+    ensures stays { ¬ (IsErrOf result FetchFault.Failed)
+        → Stays (F.known files.old) (F.known files.new) }
 {
     let mut bytes = Bytes::new(alloc);
     files.fetch(alloc, name, MOST_FILE_BYTES, &mut bytes)?;

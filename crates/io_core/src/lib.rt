@@ -1,6 +1,7 @@
-//! The outside as two traits: files that are fetched by name, and sinks that take bytes. Each counts its
-//! faults, so that a contract can say that an answer was caused by one. There are implementations in memory,
-//! whose contents and faults are known, and adapters of the file system and of a writer.
+//! The outside as two traits: files that are fetched by name, and sinks that take bytes. Each
+//! counts its faults, so that a contract can say that an answer was caused by one. There are
+//! implementations in memory, whose contents and faults are known, and adapters of the file system
+//! and of a writer.
 #![tactic(auto)]
 
 mod count;

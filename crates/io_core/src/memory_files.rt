@@ -46,10 +46,17 @@ impl Model for MemoryFiles {
 }
 
 impl MemoryFiles {
-    /// No files, no faults, no bytes given, an empty blamed name, and no fetch that is to fail. It takes no
-    /// memory.
+    /// No files, no faults, no bytes given, an empty blamed name, and no fetch that is to fail. It
+    /// takes no memory.
     pub fn new(alloc: Global) -> MemoryFiles
-        ensures { result ≡ record { held = finite.empty; faults = 0; given = 0; blamed = []; failing = []; fetches = 0 } }
+        ensures { result ≡ record {
+          held = finite.empty;
+          faults = 0;
+          given = 0;
+          blamed = [];
+          failing = [];
+          fetches = 0;
+        } }
     {
         MemoryFiles {
             alloc,
@@ -62,10 +69,11 @@ impl MemoryFiles {
         }
     }
 
-    /// Gives a name these bytes, in place of what it had. `Memory` is want of memory, and the files are as
-    /// before.
+    /// Gives a name these bytes, and not those that it had. `Memory` is want of memory, and the
+    /// files are as before.
     pub fn insert(&mut self, name: &[u8], bytes: &[u8]) -> Result<(), Memory>
-        ensures ok { OnOk result (self.new ≡ record self.old { held = finite.insert self.old.held name.now bytes.now }) }
+        ensures ok { OnOk result
+            (self.new ≡ record self.old { held = finite.insert self.old.held name.now bytes.now }) }
         ensures err { OnErr result (self.new ≡ self.old) }
     {
         let key = Vec::from_slice(self.alloc, name)?;
@@ -74,10 +82,11 @@ impl MemoryFiles {
         Ok(())
     }
 
-    /// Makes the fetch with this number fail; fetches are counted from 0. `Memory` is want of memory, and the
-    /// files are as before.
+    /// Makes the fetch with this number fail; fetches are counted from 0. `Memory` is want of
+    /// memory, and the files are as before.
     pub fn fail_at(&mut self, call: u32) -> Result<(), Memory>
-        ensures ok { OnOk result (self.new ≡ record self.old { failing = self.old.failing ++ call ∷ [] }) }
+        ensures ok { OnOk result
+            (self.new ≡ record self.old { failing = self.old.failing ++ call ∷ [] }) }
         ensures err { OnErr result (self.new ≡ self.old) }
     {
         self.failing.push(u64::from(call))?;
@@ -88,9 +97,9 @@ impl MemoryFiles {
 impl Files for MemoryFiles {
     ghost known = { stored_known };
 
-    /// As `Files` says. It answers `Failed` exactly at a listed fetch and at a name that is not held, where
-    /// there is memory to keep the name; then alone the count of faults rises, by 1. Each other fetch raises
-    /// `given` by the length of the held bytes.
+    /// As `Files` says. It answers `Failed` exactly at a listed fetch and at a name that is not
+    /// held, where there is memory to keep the name; then alone the count of faults rises, by 1.
+    /// Each other fetch raises `given` by the length of the held bytes.
     fn fetch(
         &mut self,
         alloc: Global,
@@ -98,15 +107,19 @@ impl Files for MemoryFiles {
         most: u32,
         into: &mut Bytes,
     ) -> Result<(), FetchFault>
-        ensures fetched { OnOk result (Fetches most name.now (stored_known self.old) into.old into.new) }
+        ensures fetched { OnOk result
+            (Fetches most name.now (stored_known self.old) into.old into.new) }
         ensures failed { IsErrOf result FetchFault.Failed
             → Fails (stored_known self.old) (stored_known self.new) name.now }
         ensures too_long { IsErrOf result FetchFault.TooLong
             → IsTooLong most name.now (stored_known self.old) (stored_known self.new) }
-        ensures stays { ¬ (IsErrOf result FetchFault.Failed) → Stays (stored_known self.old) (stored_known self.new) }
+        ensures stays { ¬ (IsErrOf result FetchFault.Failed)
+            → Stays (stored_known self.old) (stored_known self.new) }
         ensures into_stays { OnErr result (into.new ≡ into.old) }
-        ensures faults_rise { IsErrOf result FetchFault.Failed → self.new.faults ≡ raised self.old.faults 1 }
-        ensures faults_stay { ¬ (IsErrOf result FetchFault.Failed) → self.new.faults ≡ self.old.faults }
+        ensures faults_rise { IsErrOf result FetchFault.Failed
+            → self.new.faults ≡ raised self.old.faults 1 }
+        ensures faults_stay { ¬ (IsErrOf result FetchFault.Failed)
+            → self.new.faults ≡ self.old.faults }
         ensures handed { self.new.given ≡ given_after self.old (found self.old name.now) }
         ensures fails { IsErrOf result FetchFault.Failed → found self.old name.now ≡ None }
         ensures finds { ¬ (IsErrOf result FetchFault.Failed) → ¬ (IsErrOf result FetchFault.Memory)
@@ -134,7 +147,8 @@ impl Files for MemoryFiles {
 
 // The bytes that are held under a name, or nothing where the fetch is listed.
 fn find<'a>(files: &'a HashMap<Vec<u8>, Vec<u8>>, name: &[u8], listed: bool) -> Option<&'a [u8]>
-    ensures { option_copied result ≡ (if listed then None else finite.get (held_by files.now.entries) name.now) }
+    ensures { option_copied result
+        ≡ (if listed then None else finite.get (held_by files.now.entries) name.now) }
 {
     if listed {
         return None;

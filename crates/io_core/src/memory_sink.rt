@@ -10,8 +10,8 @@ use std::alloc::Global;
 use std::marker::Model;
 use text_core::Memory;
 
-/// A sink in memory, with room for a number of bytes. Its contents are known, and chosen puts can be made to
-/// fail.
+/// A sink in memory, with room for a number of bytes. Its contents are known, and chosen puts can
+/// be made to fail.
 #[derive(Drop)]
 pub struct MemorySink {
     bytes: Vec<u8>,
@@ -39,10 +39,11 @@ impl Model for MemorySink {
 }
 
 impl MemorySink {
-    /// A sink with room for this many bytes, no bytes, no faults, and no put that is to fail. `Memory` is want
-    /// of memory.
+    /// A sink with room for this many bytes, no bytes, no faults, and no put that is to fail.
+    /// `Memory` is want of memory.
     pub fn new(alloc: Global, room: u32) -> Result<MemorySink, Memory>
-        ensures { IfOk result (λ sink. sink ≡ record { contents = []; room = room; faults = 0; failing = []; puts = 0 }) }
+        ensures { IfOk result (λ sink. sink
+            ≡ record { contents = []; room = room; faults = 0; failing = []; puts = 0 }) }
     {
         Ok(MemorySink {
             bytes: Vec::with_capacity(alloc, room as usize)?,
@@ -53,11 +54,13 @@ impl MemorySink {
         })
     }
 
-    /// Makes the put with this number append the first `kept` bytes of its piece, or all where it is shorter,
-    /// and then fail; puts of pieces that are not empty are counted from 0, and of several entries for one
-    /// number the first counts. `Memory` is want of memory, and the sink is as before.
+    /// Makes the put with this number append the first `kept` bytes of its piece, or all where it
+    /// is shorter, and then fail; puts of pieces that are not empty are counted from 0, and of
+    /// several entries for one number the first counts. `Memory` is want of memory, and the sink is
+    /// as before.
     pub fn fail_at(&mut self, call: u32, kept: u32) -> Result<(), Memory>
-        ensures ok { OnOk result (self.new ≡ record self.old { failing = self.old.failing ++ (call, kept) ∷ [] }) }
+        ensures ok { OnOk result
+            (self.new ≡ record self.old { failing = self.old.failing ++ (call, kept) ∷ [] }) }
         ensures err { OnErr result (self.new ≡ self.old) }
     {
         self.failing.push((u64::from(call), kept))?;
@@ -75,14 +78,17 @@ impl MemorySink {
 impl Sink for MemorySink {
     ghost stream = { stored_stream };
 
-    /// As `Sink` says. It fails exactly at a listed put and where the piece passes the room; then alone the
-    /// count of faults rises, by 1. What it appends is the part that fits, and of a listed put no more than is
-    /// listed.
+    /// As `Sink` says. It fails exactly at a listed put and where the piece passes the room; then
+    /// alone the count of faults rises, by 1. What it appends is the part that fits, and of a
+    /// listed put no more than is listed.
     fn put(&mut self, piece: &[u8]) -> Result<(), SinkFault>
-        ensures puts { OnOk result (Puts (stored_stream self.old) (stored_stream self.new) piece.now) }
-        ensures breaks { OnErr result (Breaks (stored_stream self.old) (stored_stream self.new) piece.now) }
+        ensures puts { OnOk result
+            (Puts (stored_stream self.old) (stored_stream self.new) piece.now) }
+        ensures breaks { OnErr result
+            (Breaks (stored_stream self.old) (stored_stream self.new) piece.now) }
         ensures appended { OnOk result (self.new.contents ≡ self.old.contents ++ piece.now) }
-        ensures prefix { self.new.contents ≡ self.old.contents ++ take (taken self.old piece.now) piece.now }
+        ensures prefix { self.new.contents
+            ≡ self.old.contents ++ take (taken self.old piece.now) piece.now }
         ensures fails { OnErr result (IsTrue (put_fails self.old piece.now)) }
         ensures passes { OnOk result (piece.now ≢ [] → put_fails self.old piece.now ≡ false) }
         ensures cause { OnErr result (self.new.faults ≡ raised self.old.faults 1) }

@@ -12,7 +12,8 @@ use std::marker::Model;
 use std::{rt, str};
 use text_core::{Bytes, Memory};
 
-/// The files of the file system, reached through the runtime that it keeps. It tells nothing of what they hold.
+/// The files of the file system, reached through the runtime that it keeps. It tells nothing of
+/// what they hold.
 #[derive(Drop)]
 pub struct RealFiles<'a, R> {
     rt: &'a R,
@@ -44,8 +45,9 @@ impl<'a, R: rt::Files> RealFiles<'a, R> {
 impl<'a, R: rt::Files> Files for RealFiles<'a, R> {
     ghost known = { counts_known };
 
-    /// As `Files` says, with the bytes read straight into `into`. A name that is not UTF-8 is a fault, as is a file that cannot be opened or read. Each
-    /// read raises `given` by the number of its bytes, and reading stops past `most`.
+    /// As `Files` says, with the bytes read straight into `into`. A name that is not UTF-8 is a
+    /// fault, as is a file that cannot be opened or read. Each read raises `given` by the number of
+    /// its bytes, and reading stops past `most`.
     #[tactic(auto, using(crate::proofs::Appended::unknown_fetched))]
     fn fetch(
         &mut self,
@@ -54,16 +56,20 @@ impl<'a, R: rt::Files> Files for RealFiles<'a, R> {
         most: u32,
         into: &mut Bytes,
     ) -> Result<(), FetchFault>
-        ensures fetched { OnOk result (Fetches most name.now (counts_known self.old) into.old into.new) }
+        ensures fetched { OnOk result
+            (Fetches most name.now (counts_known self.old) into.old into.new) }
         ensures failed { IsErrOf result FetchFault.Failed
             → Fails (counts_known self.old) (counts_known self.new) name.now }
         ensures too_long { IsErrOf result FetchFault.TooLong
             → IsTooLong most name.now (counts_known self.old) (counts_known self.new) }
-        ensures stays { ¬ (IsErrOf result FetchFault.Failed) → Stays (counts_known self.old) (counts_known self.new) }
+        ensures stays { ¬ (IsErrOf result FetchFault.Failed)
+            → Stays (counts_known self.old) (counts_known self.new) }
         ensures into_stays { OnErr result (into.new ≡ into.old) }
-        ensures counted { OnOk result (self.new.given ≡ raised self.old.given (length into.new - length into.old)) }
+        ensures counted { OnOk result
+            (self.new.given ≡ raised self.old.given (length into.new - length into.old)) }
         ensures utf8 { ¬ (IsUtf8 name.now) → IsErrOf result FetchFault.Failed }
-        ensures faults_stay { ¬ (IsErrOf result FetchFault.Failed) → self.new.faults ≡ self.old.faults }
+        ensures faults_stay { ¬ (IsErrOf result FetchFault.Failed)
+            → self.new.faults ≡ self.old.faults }
     {
         let before = into.len();
         let Err(fault) = read_file(self.rt, alloc, name, most, &mut self.given, into) else {
@@ -79,8 +85,8 @@ impl<'a, R: rt::Files> Files for RealFiles<'a, R> {
     ghost told = { λ _. refl };
 }
 
-// Appends the bytes of the file with this name, if they are at most this many; at a fault some of them may be
-// appended. `given` rises by the bytes that were read.
+// Appends the bytes of the file with this name, if they are at most this many; at a fault some of
+// them may be appended. `given` rises by the bytes that were read.
 fn read_file<R: rt::Files>(
     rt: &R,
     alloc: Global,
@@ -91,7 +97,8 @@ fn read_file<R: rt::Files>(
 ) -> Result<(), FetchFault>
     ensures front { take (length into.old) into.new ≡ into.old }
     ensures within { OnOk result (length into.new ≤ length into.old + most) }
-    ensures counted { OnOk result (given.new ≡ raised given.old (length into.new - length into.old)) }
+    ensures counted { OnOk result
+        (given.new ≡ raised given.old (length into.new - length into.old)) }
     ensures utf8 { ¬ (IsUtf8 name.now) → IsErrOf result FetchFault.Failed }
     ensures later { given.old ≤ given.new }
     ensures too_long { IsErrOf result FetchFault.TooLong → RoseAbove most given.old given.new }
@@ -105,8 +112,8 @@ fn read_file<R: rt::Files>(
     }
 }
 
-// Appends the bytes up to the end, if they are at most this many; at a fault some of them may be appended.
-// `given` rises by the bytes that were read.
+// Appends the bytes up to the end, if they are at most this many; at a fault some of them may be
+// appended. `given` rises by the bytes that were read.
 fn read_within<T: Read>(
     alloc: Global,
     file: &mut T,
@@ -114,10 +121,12 @@ fn read_within<T: Read>(
     given: &mut u64,
     into: &mut Bytes,
 ) -> Result<(), FetchFault>
-    ensures whole { OnOk result (IfSome (T.remaining file.old) (λ rest. into.new ≡ into.old ++ rest)) }
+    ensures whole { OnOk result
+        (IfSome (T.remaining file.old) (λ rest. into.new ≡ into.old ++ rest)) }
     ensures front { take (length into.old) into.new ≡ into.old }
     ensures within { OnOk result (length into.new ≤ length into.old + most) }
-    ensures counted { OnOk result (given.new ≡ raised given.old (length into.new - length into.old)) }
+    ensures counted { OnOk result
+        (given.new ≡ raised given.old (length into.new - length into.old)) }
     ensures later { given.old ≤ given.new }
     ensures too_long { IsErrOf result FetchFault.TooLong → RoseAbove most given.old given.new }
 {
@@ -140,9 +149,12 @@ fn read_within<T: Read>(
     }
 }
 
-// A buffer for one read, of 64 KiB.
+// How many bytes one read gives at most.
+const READ_BYTES: usize = 65_536;
+
+// A buffer for one read.
 fn read_buffer(alloc: Global) -> Result<Vec<u8>, Memory>
-    ensures { IfOk result (λ buffer. vec_len buffer ≡ 65536) }
+    ensures { IfOk result (λ buffer. vec_len buffer ≡ READ_BYTES) }
 {
-    Ok(vec![in alloc; 0; 65536]?)
+    Ok(vec![in alloc; 0; READ_BYTES]?)
 }

@@ -9,8 +9,8 @@ use crate::sink::{Sink, SinkFault};
 use std::io::Write;
 use std::marker::Model;
 
-/// A writer as a sink. As a sink it tells nothing of its contents; contracts see the number of its faults, and what
-/// the writer says that it holds.
+/// A writer as a sink. As a sink it tells nothing of its contents; contracts see the number of its
+/// faults, and what the writer says that it holds.
 #[derive(Drop)]
 pub struct StreamSink<T: Write> {
     inner: T,
@@ -37,13 +37,16 @@ impl<T: Write> StreamSink<T> {
 impl<T: Write> Sink for StreamSink<T> {
     ghost stream = { written_known };
 
-    /// As `Sink` says. A write that takes nothing of a piece that is not empty is a fault, as is a failed write
-    /// or flush. Where the writer says what it holds, the whole piece was written, or at a fault a prefix of it.
+    /// As `Sink` says. A write that takes nothing of a piece that is not empty is a fault, as is a
+    /// failed write or flush. Where the writer says what it holds, the whole piece was written, or
+    /// at a fault a prefix of it.
     fn put(&mut self, piece: &[u8]) -> Result<(), SinkFault>
         ensures appended { OnOk result (Appends self.old.written self.new.written piece.now) }
         ensures prefix { (n : ℕ) × Appends self.old.written self.new.written (take n piece.now) }
-        ensures puts { OnOk result (Puts (written_known self.old) (written_known self.new) piece.now) }
-        ensures breaks { OnErr result (Breaks (written_known self.old) (written_known self.new) piece.now) }
+        ensures puts { OnOk result
+            (Puts (written_known self.old) (written_known self.new) piece.now) }
+        ensures breaks { OnErr result
+            (Breaks (written_known self.old) (written_known self.new) piece.now) }
         ensures faults_stay { OnOk result (self.new.faults ≡ self.old.faults) }
         ensures empty { piece.now ≡ [] → IsOk result }
     {
@@ -57,8 +60,10 @@ impl<T: Write> Sink for StreamSink<T> {
 
 // Writes a piece and flushes the writer. An empty piece is not written.
 fn write_whole<T: Write>(writer: &mut T, piece: &[u8]) -> Result<(), SinkFault>
-    ensures appended { OnOk result (Appends (T.contents writer.old) (T.contents writer.new) piece.now) }
-    ensures prefix { (n : ℕ) × Appends (T.contents writer.old) (T.contents writer.new) (take n piece.now) }
+    ensures appended { OnOk result
+        (Appends (T.contents writer.old) (T.contents writer.new) piece.now) }
+    ensures prefix { (n : ℕ)
+        × Appends (T.contents writer.old) (T.contents writer.new) (take n piece.now) }
     ensures empty { piece.now ≡ [] → IsOk result }
 {
     if piece.is_empty() {

@@ -8,7 +8,7 @@ use Rattle.std.proofs.Common.{ap, sym, ◌∙◌, inl, inr, subst, arith}
 use Rattle.std.proofs.lemmas.Option.{slice_get-map}
 use Rattle.text_core.specs.Names.{Text}
 use Rattle.text_core.proofs.Laws.{some_front, some_back, some_append, value_same, and_both, or_either}
-use Rattle.text_core.specs.Lists.{SomeOf, IsAmong}
+use Rattle.text_core.specs.Lists.{IsAmong}
 use Rattle.text_core.specs.Numbered.{Tables}
 use Rattle.logic_core.specs.declared.form.Atom.{Atom}
 use Rattle.logic_core.specs.declared.form.Form.{Form}

@@ -6,7 +6,7 @@ ghost use Rattle.proof_checker.specs.declared.words.NotRead.TheVariants as fault
 ghost use Rattle.proof_checker.specs.declared.ground.CitedFact.{CitedFact as Step};
 ghost use Rattle.proof_checker.specs.Ground.{IsGroundProof, IsProofOf};
 ghost use Rattle.proof_checker.specs.Unread.{IsUnread};
-ghost use Rattle.proof_checker.specs.Reading.{Gives, IsMisfit, args_from, atom_from, atom_behind, empty_list, step_from, step_behind, end_from, closed, steps_from, proof_from};
+ghost use Rattle.proof_checker.specs.Reading.{Gives, IsMisfit, args_from, atom_from, empty_list, step_from, step_behind, closed, steps_from, proof_from};
 
 use crate::ground::{CitedFact, GroundAtom};
 use crate::words::{NotRead, after, skip, word};

@@ -1,5 +1,4 @@
 ghost use Rattle.std.specs.Prelude.{◌≡◌, option_map};
-ghost use Rattle.std.specs.Str.{bytes_eq};
 ghost use Rattle.proof_checker.specs.Reading.{Gives, after, word_from};
 
 use logic_core::{Bytes, Memory};

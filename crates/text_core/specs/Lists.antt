@@ -1,4 +1,5 @@
--- Words on lists, by recursion, so that a law follows the list. "Each" is `AllByRecursion` of the library.
+-- Words on lists, by recursion, so that a law follows the list. "Each" is `AllByRecursion` of the
+-- library.
 use Rattle.std.specs.Prelude.{◌⊎◌, ◌≡◌, List, [], ◌∷◌}
 
 -- P holds of some member

@@ -7,8 +7,8 @@ pub record Symbol : Type 0 where
   pub name : Text
   pub arity : ℕ
 
--- what numbers stand for: symbol 0 is equality, symbol n + 1 is the n-th of the symbols, and constant c the c-th of the
--- constants
+-- what numbers stand for: symbol 0 is equality, symbol n + 1 is the n-th of the symbols, and
+-- constant c the c-th of the constants
 pub record Tables : Type 0 where
   pub symbols : List Symbol
   pub constants : List Text

@@ -23,7 +23,8 @@ pub fn is_digit(byte: u8) -> bool
     b'0' <= byte && byte <= b'9'
 }
 
-/// Whether a word may go on with a byte: a letter, a digit or `_`. Source: the TPTP syntax, alpha_numeric.
+/// Whether a word may go on with a byte: a letter, a digit or `_`. Source: the TPTP syntax,
+/// alpha_numeric.
 pub fn is_word(byte: u8) -> bool
     ensures { result ≡ names.is_word byte }
 {
@@ -61,7 +62,8 @@ pub fn are_digits(bytes: &[u8]) -> bool
     bytes.iter().all(|byte| is_digit(*byte))
 }
 
-/// Whether a text is a word that begins with one of `a` to `z`. Source: the TPTP syntax, lower_word.
+/// Whether a text is a word that begins with one of `a` to `z`. Source: the TPTP syntax,
+/// lower_word.
 pub fn is_lower_word(text: &[u8]) -> bool
     ensures { result ≡ names.is_word_from names.is_lower text.now }
 {

@@ -1,5 +1,5 @@
-//! What every other crate of Hogbygone stands on: lists and names, classes of bytes, limits, and the answer for want of
-//! memory.
+//! What every other crate of Hogbygone stands on: lists and names, classes of bytes, limits, and
+//! the answer for want of memory.
 #![tactic(auto)]
 
 mod byte;

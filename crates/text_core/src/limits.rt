@@ -12,8 +12,8 @@ pub const MOST_FILES: u32 = 17;
 /// The greatest number of formulas of a problem.
 pub const MOST_FORMULAS: u32 = 65_536;
 
-/// The greatest number of levels that are open at a token of a formula or an annotation: brackets, negations and
-/// quantifiers open levels.
+/// The greatest number of levels that are open at a token of a formula or an annotation: brackets,
+/// negations and quantifiers open levels.
 pub const MOST_LEVELS: u32 = 200;
 
 /// The greatest number of rule applications of a proof.

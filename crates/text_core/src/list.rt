@@ -5,7 +5,8 @@ use crate::memory::Memory;
 use std::alloc::Global;
 use std::marker::Model;
 
-/// A list that grows at its end. Contracts see the list of its items, so that a copy equals its source.
+/// A list that grows at its end. Contracts see the list of its items, so that a copy equals its
+/// source.
 #[derive(Debug, Drop)]
 pub struct List<T> {
     items: Vec<T>,
@@ -74,7 +75,8 @@ impl<T> List<T> {
 }
 
 impl<T: Drop> List<T> {
-    /// Appends an item. `Memory` is want of memory: the item is given up, and the list is as before.
+    /// Appends an item. `Memory` is want of memory: the item is given up, and the list is as
+    /// before.
     pub fn push(&mut self, item: T) -> Result<(), Memory>
         ensures ok { OnOk result (self.new ≡ self.old ++ item ∷ []) }
         ensures err { OnErr result (self.new ≡ self.old) }

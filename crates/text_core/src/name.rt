@@ -12,8 +12,8 @@ use std::alloc::Global;
 use std::hash::{Hash, Hasher};
 use std::marker::Model;
 
-/// A name of a formula, a predicate, a constant or a variable, or of a file in an include: one or more bytes
-/// of printable ASCII, from 32 to 126. Contracts see the list of its bytes.
+/// A name of a formula, a predicate, a constant or a variable, or of a file in an include: one or
+/// more bytes of printable ASCII, from 32 to 126. Contracts see the list of its bytes.
 #[derive(Debug, Drop)]
 pub struct Name {
     bytes: Bytes,
@@ -31,7 +31,8 @@ impl Model for Name {
 }
 
 impl Name {
-    /// The name with these bytes, which are one or more, each from 32 to 126. `Memory` is want of memory.
+    /// The name with these bytes, which are one or more, each from 32 to 126. `Memory` is want of
+    /// memory.
     pub fn from_bytes(alloc: Global, bytes: &[u8]) -> Result<Name, Memory>
         requires { IsNameText bytes.now }
         ensures { IfOk result (λ name. name ≡ bytes.now) }

@@ -19,11 +19,13 @@ abbrev pub stood_rows : {P Q : Type 0} → (P → List (List Q)) → List P → 
 stood_rows stands [] = [] ∷ []
 stood_rows stands (p ∷ row) = joined_rows (stands p) (stood_rows stands row)
 
--- the first row becomes the second where some of its members are replaced by their alternatives, and so on
+-- the first row becomes the second where some of its members are replaced by their alternatives,
+-- and so on
 pub data Becomes {Q T : Type 0} (h : Grammar Q T) : List Q → List Q → Type 0 where
   done : Becomes h [] []
   keep : {q : Q} {row other : List Q} → Becomes h row other → Becomes h (q ∷ row) (q ∷ other)
-  replace : {q : Q} {row other : List Q} (alternative : List Q) → IsAmong alternative (h.alternatives q) →
+  replace : {q : Q} {row other : List Q} (alternative : List Q) →
+      IsAmong alternative (h.alternatives q) →
       Becomes h (alternative ++ row) other → Becomes h (q ∷ row) other
 
 -- one of the rows becomes the other row
@@ -37,14 +39,18 @@ EachIsMade h rows [] = Unit {0}
 EachIsMade h rows (other ∷ others) = OneBecomes h rows other × EachIsMade h rows others
 
 -- each row that one of the alternatives stands for is what one of the rows becomes
-abbrev pub AlternativesAreMade : {P Q T : Type 0} → Grammar Q T → (P → List (List Q)) → List (List Q) → List (List P) → Type 0
+abbrev pub AlternativesAreMade : {P Q T : Type 0} → Grammar Q T → (P → List (List Q)) →
+    List (List Q) → List (List P) → Type 0
 AlternativesAreMade h stands rows [] = Unit {0}
 AlternativesAreMade h stands rows (alternative ∷ alternatives) =
-    EachIsMade h rows (stood_rows stands alternative) × AlternativesAreMade h stands rows alternatives
+    EachIsMade h rows (stood_rows stands alternative) ×
+    AlternativesAreMade h stands rows alternatives
 
--- each part of the first grammar stands for rows of the second: one of them spells a token that the part takes, and each row
--- that one of its alternatives stands for is what one of them becomes
-pub record Translates {P Q T : Type 0} (g : Grammar P T) (h : Grammar Q T) (stands : P → List (List Q)) : Type 0 where
+-- each part of the first grammar stands for rows of the second: one of them spells a token that the
+-- part takes, and each row that one of its alternatives stands for is what one of them becomes
+pub record Translates {P Q T : Type 0} (g : Grammar P T) (h : Grammar Q T) (stands : P →
+    List (List Q)) : Type 0 where
   pub some : (p : P) → IsFalse (is_empty (stands p))
-  pub takes : (p : P) (t : T) → IsTrue (g.takes p t) → (row : List Q) × IsAmong row (stands p) × Spelled h row (t ∷ [])
+  pub takes : (p : P) (t : T) → IsTrue (g.takes p t) → (row : List Q) × IsAmong row (stands p) ×
+      Spelled h row (t ∷ [])
   pub alternatives : (p : P) → AlternativesAreMade h stands (stands p) (g.alternatives p)

@@ -1,4 +1,5 @@
--- How the values of a grammar's parts are made: of a token that a part takes, and of the values of a row's members.
+-- How the values of a grammar's parts are made: of a token that a part takes, and of the values of
+-- a row's members.
 use Rattle.std.specs.Prelude.{◌⊎◌, List, [], ◌∷◌, IsTrue}
 use Rattle.token_grammar.specs.Grammar.{Grammar}
 use Rattle.std.proofs.Common.{inl, inr}
@@ -19,7 +20,9 @@ abbrev pub RowValues : {P : Type 0} → (P → Type 0) → List P → Type 0
 RowValues Value [] = Unit {0}
 RowValues Value (p ∷ row) = Value p × RowValues Value row
 
--- how the values of a grammar's parts are made: of a token that a part takes, and of the values of an alternative's members
+-- how the values of a grammar's parts are made: of a token that a part takes, and of the values of
+-- an alternative's members
 pub record Making {P T : Type 0} (g : Grammar P T) (Value : P → Type 0) : Type 0 where
   pub of_token : (p : P) (t : T) → IsTrue (g.takes p t) → Value p
-  pub of_row : (p : P) (choice : Choice (g.alternatives p)) → RowValues Value (element (g.alternatives p) choice) → Value p
+  pub of_row : (p : P) (choice : Choice (g.alternatives p)) →
+      RowValues Value (element (g.alternatives p) choice) → Value p

@@ -1,11 +1,13 @@
--- When one look at the next token is enough: a plan that says which alternative each token asks for, and the test that a grammar
--- and its plan have to pass. Source: the LL(1) condition, with its first and follow sets.
+-- When one look at the next token is enough: a plan that says which alternative each token asks
+-- for, and the test that a grammar and its plan have to pass. Source: the LL(1) condition, with its
+-- first and follow sets.
 use Rattle.std.specs.Prelude.{ℕ, zero, suc, ◌+◌, Bool, true, false, not, ◌&&◌, ◌||◌, List, [], ◌∷◌, Some, None, IsTrue, nat_lt, if◌then◌else◌}
 use Rattle.std.specs.declared.option.Option.{Option}
 use Rattle.token_grammar.specs.Grammar.{Grammar}
 
--- a plan: the number of the alternative that a token asks for, from 0; the tokens that may stand after a part; and a cost that
--- is greater than that of the first members of each of the part's alternatives
+-- a plan: the number of the alternative that a token asks for, from 0; the tokens that may stand
+-- after a part; and a cost that is greater than that of the first members of each of the part's
+-- alternatives
 pub record Plan (P T : Type 0) : Type 0 where
   pub chosen : P → T → Option ℕ
   pub follow : P → T → Bool
@@ -73,7 +75,8 @@ abbrev pub weight : {P T : Type 0} → Grammar P T → Plan P T → List P → �
 weight g plan [] = 0
 weight g plan (p ∷ row) = plan.cost p + (if is_nullable g p then weight g plan row else 0)
 
--- each alternative costs less than the part, and at most one may stand for no tokens: the empty one, once
+-- each alternative costs less than the part, and at most one may stand for no tokens: the empty
+-- one, once
 abbrev pub rows_pass : {P T : Type 0} → Grammar P T → Plan P T → ℕ → List (List P) → Bool
 rows_pass g plan most [] = true
 rows_pass g plan most (row ∷ rows) =
@@ -84,11 +87,13 @@ rows_pass g plan most (row ∷ rows) =
 abbrev pub part_test : {P T : Type 0} → Grammar P T → Plan P T → P → Bool
 part_test g plan p = rows_pass g plan (plan.cost p) (g.alternatives p)
 
--- a token that may stand after a member of the row, because of what follows there, is one that may follow the member
+-- a token that may stand after a member of the row, because of what follows there, is one that may
+-- follow the member
 abbrev pub follow_passes : {P T : Type 0} → Grammar P T → Plan P T → P → T → List P → Bool
 follow_passes g plan p t [] = true
 follow_passes g plan p t (q ∷ row) =
-    (plan.follow q t || not (row_begins g plan row t || (all_nullable g row && plan.follow p t))) && follow_passes g plan p t row
+    (plan.follow q t || not (row_begins g plan row t ||
+    (all_nullable g row && plan.follow p t))) && follow_passes g plan p t row
 
 -- whether the token asks for the row, as an alternative of the part
 abbrev pub asks : {P T : Type 0} → Grammar P T → Plan P T → P → T → List P → Bool
@@ -96,7 +101,8 @@ asks g plan p t [] = plan.follow p t
 asks g plan p t (q ∷ row) = row_begins g plan (q ∷ row) t
 
 -- each alternative that the token asks for is the chosen one
-abbrev pub choice_passes : {P T : Type 0} → Grammar P T → Plan P T → P → T → Option ℕ → List (List P) → Bool
+abbrev pub choice_passes : {P T : Type 0} → Grammar P T → Plan P T → P → T → Option ℕ →
+    List (List P) → Bool
 choice_passes g plan p t number [] = true
 choice_passes g plan p t number (row ∷ rows) =
     (is_first number || not (asks g plan p t row)) &&
@@ -105,7 +111,8 @@ choice_passes g plan p t number (row ∷ rows) =
 -- the test of a part at a token; a part that takes the token has no alternatives
 abbrev pub token_test : {P T : Type 0} → Grammar P T → Plan P T → P → T → Bool
 token_test g plan p t =
-    (is_empty (g.alternatives p) || not (g.takes p t)) && choice_passes g plan p t (plan.chosen p t) (g.alternatives p)
+    (is_empty (g.alternatives p) || not (g.takes p t)) && choice_passes g plan p t
+    (plan.chosen p t) (g.alternatives p)
 
 -- one look at the next token is enough: the tests hold at each part and token
 pub record IsPredictive {P T : Type 0} (g : Grammar P T) (plan : Plan P T) : Type 0 where

@@ -1,4 +1,5 @@
--- What a part may do at a token, and what the machine's stack becomes at one. A stack is told as a row, its top first.
+-- What a part may do at a token, and what the machine's stack becomes at one. A stack is told as a
+-- row, its top first.
 use Rattle.std.specs.Prelude.{◌≡◌, List, [], ◌∷◌, ◌++◌, reverse, Option, Some, None, IsTrue, IsFalse}
 use Rattle.token_grammar.specs.Grammar.{Grammar}
 use Rattle.token_grammar.specs.Plan.{Plan, predicted}
@@ -22,10 +23,13 @@ IsExpand Expand row old new = new ≡ old ++ reverse row
 IsExpand Take row old new = ⊥
 IsExpand Refuse row old new = ⊥
 
--- the first part of the row was replaced by the alternative that the token asks for, some times over
-pub data Expanded {P T : Type 0} (g : Grammar P T) (plan : Plan P T) (t : T) : List P → List P → Type 0 where
+-- the first part of the row was replaced by the alternative that the token asks for, some times
+-- over
+pub data Expanded {P T : Type 0} (g : Grammar P T) (plan : Plan P T) (t : T) : List P → List P →
+    Type 0 where
   here : {row : List P} → Expanded g plan t row row
-  further : {p : P} {row last : List P} (alternative : List P) → predicted g plan p t ≡ Some alternative →
+  further : {p : P} {row last : List P} (alternative : List P) →
+      predicted g plan p t ≡ Some alternative →
       Expanded g plan t (alternative ++ row) last → Expanded g plan t (p ∷ row) last
 
 -- the first part of the row can do nothing with the token
@@ -36,4 +40,6 @@ IsBlocked g plan t (p ∷ row) = IsFalse (g.takes p t) × predicted g plan p t �
 -- at the token the row before becomes the row after: a part took the token, or none could
 abbrev pub Moves : {P T : Type 0} → Grammar P T → Plan P T → T → List P → List P → Option P → Type 0
 Moves g plan t before after (Some p) = Expanded g plan t before (p ∷ after) × IsTrue (g.takes p t)
-Moves {P = P} g plan t before after None = (stuck : List P) × Expanded g plan t before stuck × IsBlocked g plan t stuck
+Moves {P =
+    P} g plan t before after None = (stuck : List P) × Expanded g plan t before stuck ×
+    IsBlocked g plan t stuck

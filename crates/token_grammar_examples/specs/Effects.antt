@@ -1,4 +1,5 @@
--- What the builder of expressions does at a token and at an empty row, and what each value leaves in its registers.
+-- What the builder of expressions does at a token and at an empty row, and what each value leaves
+-- in its registers.
 use Rattle.std.specs.Prelude.{[], ◌∷◌, ◌++◌}
 use Rattle.token_grammar.specs.Stacks.{top_or, below}
 use Rattle.token_grammar_examples.specs.declared.expression.Expression.TheVariants as value
@@ -24,10 +25,12 @@ operand_added b = record b { operands = b.operands ++ (b.current ∷ []); curren
 
 -- a sum begins with the current expression; the operands of the sum around it are kept
 abbrev pub sum_begun : ExpressionBuilder → ExpressionBuilder
-sum_begun b = record b { operands = b.current ∷ []; sums = b.operands ∷ b.sums; current = value.Number 0 }
+sum_begun b =
+    record b { operands = b.current ∷ []; sums = b.operands ∷ b.sums; current = value.Number 0 }
 
 abbrev pub sum_ended : ExpressionBuilder → ExpressionBuilder
-sum_ended b = record b { current = value.Sum b.operands; operands = top_or [] b.sums; sums = below b.sums }
+sum_ended b =
+    record b { current = value.Sum b.operands; operands = top_or [] b.sums; sums = below b.sums }
 
 abbrev pub negated : ExpressionBuilder → ExpressionBuilder
 negated b = record b { current = value.Negated b.current }
@@ -40,7 +43,8 @@ abbrev pub member_added : ExpressionBuilder → ExpressionBuilder
 member_added b = record b { members = b.members ++ (b.current ∷ []); current = value.Number 0 }
 
 abbrev pub row_ended : ExpressionBuilder → ExpressionBuilder
-row_ended b = record b { current = value.Row b.members; members = top_or [] b.rows; rows = below b.rows }
+row_ended b =
+    record b { current = value.Row b.members; members = top_or [] b.rows; rows = below b.rows }
 
 -- what is done at a token
 abbrev pub taken : Taker.Taker → Mark.Mark → ExpressionBuilder → ExpressionBuilder
@@ -75,7 +79,12 @@ rule_effect Operand expression b = record b { current = expression }
 rule_effect Atom expression b = record b { current = expression }
 rule_effect Rest others b = record b { current = with_rest b.current others }
 rule_effect More others b =
-    record b { current = value.Sum (b.operands ++ others); operands = top_or [] b.sums; sums = below b.sums }
+    record b {
+      current =
+          value.Sum (b.operands ++ others);
+      operands = top_or [] b.sums;
+      sums = below b.sums;
+    }
 rule_effect Members list b = record b { members = b.members ++ list; current = value.Number 0 }
 rule_effect Others list b = record b { members = b.members ++ list; current = value.Number 0 }
 rule_effect Join done b = operand_added b

@@ -1,11 +1,8 @@
--- The grammar of expressions, where join, negate and add are nothing, and tell the builder that an operand or a member has ended:
---   whole   ::= operand rest
---   rest    ::= nothing | `+` operand join more
---   more    ::= nothing | `+` operand join more
---   operand ::= atom | `-` atom negate
---   atom    ::= number | `(` whole `)` | `[` members `]`
---   members ::= nothing | whole add others
---   others  ::= nothing | `,` whole add others
+-- The grammar of expressions, where join, negate and add are nothing, and tell the builder that an
+-- operand or a member has ended: whole   ::= operand rest rest    ::= nothing | `+` operand join
+-- more more    ::= nothing | `+` operand join more operand ::= atom | `-` atom negate atom    ::=
+-- number | `(` whole `)` | `[` members `]` members ::= nothing | whole add others others  ::=
+-- nothing | `,` whole add others
 use Rattle.std.specs.Prelude.{Bool, true, false, List, [], ◌∷◌}
 use Rattle.token_grammar.specs.Grammar.{Grammar}
 use Rattle.token_grammar.specs.Plan.{Plan}
@@ -46,7 +43,8 @@ rows More = [] ∷ (Taken NextPlus ∷ Row Operand ∷ Row Join ∷ Row More ∷
 rows Operand = (Row Atom ∷ []) ∷ (Taken Minus ∷ Row Atom ∷ Row Negate ∷ []) ∷ []
 rows Negate = [] ∷ []
 rows Atom =
-    (Taken Number ∷ []) ∷ (Taken Open ∷ Row Whole ∷ Taken Close ∷ []) ∷ (Taken OpenRow ∷ Row Members ∷ Taken CloseRow ∷ []) ∷ []
+    (Taken Number ∷ []) ∷ (Taken Open ∷ Row Whole ∷ Taken Close ∷ []) ∷
+    (Taken OpenRow ∷ Row Members ∷ Taken CloseRow ∷ []) ∷ []
 rows Members = [] ∷ (Row Whole ∷ Row Add ∷ Row Others ∷ []) ∷ []
 rows Others = [] ∷ (Taken Comma ∷ Row Whole ∷ Row Add ∷ Row Others ∷ []) ∷ []
 rows Add = [] ∷ []

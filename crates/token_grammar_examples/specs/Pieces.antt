@@ -36,7 +36,8 @@ with_more n count = record count { pieces = count.pieces + n }
 abbrev pub looks : Symbol.Symbol → Mark.Mark → Count → Count
 looks (Taken taker.Number) t count = with_more 1 count
 looks (Taken taker.Open) t count = record count { level = count.level + 1 }
-looks (Taken taker.OpenRow) t count = record count { pieces = count.pieces + 1; level = count.level + 1 }
+looks (Taken taker.OpenRow) t count =
+    record count { pieces = count.pieces + 1; level = count.level + 1 }
 looks (Taken taker.Close) t count = closed count
 looks (Taken taker.CloseRow) t count = closed count
 looks _ t count = count

@@ -52,11 +52,24 @@ makers (Row Whole) = ((λ (first, (rest, end)). with_rest first rest), tt)
 makers (Row Rest) = ((λ none. []), ((λ (plus, (second, (join, (more, end)))). second ∷ more), tt))
 makers (Row Join) = ((λ none. tt), tt)
 makers (Row More) = ((λ none. []), ((λ (plus, (next, (join, (more, end)))). next ∷ more), tt))
-makers (Row Operand) = ((λ (atom, end). atom), ((λ (minus, (atom, (negate, end))). value.Negated atom), tt))
+makers (Row Operand) =
+    ((λ (atom, end). atom), ((λ (minus, (atom, (negate, end))). value.Negated atom), tt))
 makers (Row Negate) = ((λ none. tt), tt)
 makers (Row Atom) = (
   (λ (number, end). number_of number),
-  ((λ (bracket, (whole, (close, end))). whole), ((λ (bracket, (members, (close, end))). value.Row members), tt)),
+  (
+    (λ (bracket, (whole, (close, end))). whole),
+    (
+      (λ (
+        bracket,
+        (
+          members,
+          (close, end),
+        ),
+      ). value.Row members),
+      tt,
+    ),
+  ),
 )
 makers (Row Members) = ((λ none. []), ((λ (first, (add, (others, end))). first ∷ others), tt))
 makers (Row Others) = ((λ none. []), ((λ (comma, (next, (add, (others, end)))). next ∷ others), tt))

@@ -1,8 +1,9 @@
--- Items that are spelled and closed may be in a problem: where a formula is spelled, at most 200 levels are open.
+-- Items that are spelled and closed may be in a problem: where a formula is spelled, at most `MOST_LEVELS` levels are open.
 use Rattle.std.specs.Prelude.{◌≡◌, ℕ, ◌+◌, ◌≤◌, max, Bool, true, false, List, [], ◌∷◌, Option, Some, None}
 use Rattle.std.proofs.Common.{refl, ap, arith}
 use Rattle.std.specs.List.{AllByRecursion}
 use Rattle.text_core.specs.Names.{Text}
+use Rattle.text_core.specs.declared.limits.TheConstants.{MOST_LEVELS}
 use Rattle.logic_core.specs.Allowed.{depth, greatest_depth, nesting}
 use Rattle.logic_core.proofs.Laws.{row_of, Not_opens, And_opens, Or_opens, Binary_opens, Exists_opens, depth-ForAll}
 use Rattle.logic_core.specs.Allowed.{ItemIsAllowed}
@@ -14,13 +15,12 @@ use Rattle.logic_core.specs.declared.problem.Item.{Item}
 use Rattle.logic_core.specs.declared.problem.Item.TheVariants.{Fof as ItemFof, Include}
 use Rattle.tptp_lexer.specs.declared.kind.Kind.{Kind}
 use Rattle.tptp_lexer.specs.Tokens.{Token}
-use Rattle.tptp_grammar.specs.Spells.{SpellsFormula, SpellsRest, SpellsUnitary, SpellsSelection, SpellsItem, SpellsItems, Chain, chain_of, Quantifier, quantify, truth_formula}
+use Rattle.tptp_grammar.specs.Spells.{SpellsFormula, SpellsRest, SpellsUnitary, SpellsSelection, SpellsItem, SpellsItems, Chain, chain_of, Quantifier, quantify, truth_formula, ItemIsClosed}
 use Rattle.tptp_grammar.specs.Spells.Quantifier.{for_all, there_is}
 use Rattle.tptp_grammar.specs.Spells.Chain.{conjunction, disjunction}
 use Rattle.tptp_grammar.specs.Spells.SpellsFormula.{alone, chain, binary}
 use Rattle.tptp_grammar.specs.Spells.SpellsRest.{end, further}
 use Rattle.tptp_grammar.specs.Spells.SpellsUnitary.{brackets, negation, quantified, truth, atom, equation, inequality}
-use Rattle.tptp_grammar.specs.Spells.{ItemIsClosed}
 
 -- a whole formula is nested as deep as it is inside another one, or one less
 shallower : (f : Formula) → (nesting f ≤ depth f) × (depth f ≤ nesting f + 1)
@@ -68,13 +68,13 @@ unfolding row_of
 greatest g gs = refl
 
 -- an empty row is not too deep
-none_within : (level : ℕ) → level ≤ 200 → greatest_depth (row_of []) + level ≤ 200
+none_within : (level : ℕ) → level ≤ MOST_LEVELS → greatest_depth (row_of []) + level ≤ MOST_LEVELS
 unfolding row_of
 none_within level low = omega arith
 
 mutual
   -- a formula is not nested too deep
-  formula_within : {level : ℕ} {f : Formula} {ts : List Token} → SpellsFormula level f ts → level ≤ 200 → nesting f + level ≤ 200
+  formula_within : {level : ℕ} {f : Formula} {ts : List Token} → SpellsFormula level f ts → level ≤ MOST_LEVELS → nesting f + level ≤ MOST_LEVELS
   formula_within (alone {f = f} s) low = let less = shallower f in let within = unitary_within s low in omega arith
   formula_within (chain c g h gs us vs s rest is split) low =
       let made = ap nesting is in let opened = nesting-chain c (g ∷ h ∷ gs) in let all = greatest g (h ∷ gs) in
@@ -84,14 +84,14 @@ mutual
       let first = unitary_within s low in let second = unitary_within r low in omega arith
 
   -- further members are not too deep
-  rest_within : {k : Kind} {level : ℕ} {gs : List Formula} {ts : List Token} → SpellsRest k level gs ts → level ≤ 200 →
-      greatest_depth (row_of gs) + level ≤ 200
+  rest_within : {k : Kind} {level : ℕ} {gs : List Formula} {ts : List Token} → SpellsRest k level gs ts → level ≤ MOST_LEVELS →
+      greatest_depth (row_of gs) + level ≤ MOST_LEVELS
   rest_within {level = level} end low = none_within level low
   rest_within (further {g = g} {gs = gs} before us vs k s rest split) low =
       let all = greatest g gs in let first = unitary_within s low in let others = rest_within rest low in omega arith
 
   -- a unit formula is not too deep
-  unitary_within : {level : ℕ} {f : Formula} {ts : List Token} → SpellsUnitary level f ts → level ≤ 200 → depth f + level ≤ 200
+  unitary_within : {level : ℕ} {f : Formula} {ts : List Token} → SpellsUnitary level f ts → level ≤ MOST_LEVELS → depth f + level ≤ MOST_LEVELS
   unitary_within (brackets {f = f} first ts last low k s l split) within =
       let less = shallower f in let inner = formula_within s (omega arith) in omega arith
   unitary_within (negation g first ts low k s is split) within =

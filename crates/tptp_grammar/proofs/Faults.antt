@@ -1,7 +1,7 @@
 -- A text has one refusal at most, and none where the machine accepts it.
 use Rattle.std.specs.Prelude.{ℕ, ◌≡◌, ◌≢◌, ◌⊎◌, Bool, true, false, slice_get, Some, Ok, Err, []}
 use Rattle.std.proofs.Common.{inl, inr, refl, sym, ◌∙◌, ap, subst}
-use Rattle.token_grammar.specs.Answers.{IsAccepted, IsRefused, AreOne}
+use Rattle.token_grammar.specs.Answers.{IsAccepted, AreOne}
 use Rattle.token_grammar.specs.declared.refusal.Refusal.{Refusal}
 use Rattle.token_grammar.specs.declared.refusal.Refusal.TheVariants as machine
 use Rattle.token_grammar.proofs.Laws as agreement

@@ -1,19 +1,13 @@
--- The grammar of items as it is printed, where l counts the levels that are open:
---   items       ::= item*
---   item        ::= `fof` `(` name `,` role `,` formula 0 [ `,` general 0 [ `,` list 0 ] ] `)` `.`
---                 | `include` `(` Quoted [ `,` `[` names `]` ] `)` `.`
---   names       ::= name,..
---   formula l   ::= unit l | unit l (`&` unit l)+ | unit l (`|` unit l)+ | unit l connective unit l
---   unit l      ::= `(` formula (l + 1) `)` | `~` unit (l + 1) | `!` `[` variable,.. `]` `:` unit (l + 1)
---                 | `?` `[` variable,.. `]` `:` unit (l + 1) | `$true` | `$false`
---                 | word [ `(` terms l `)` ] | term l `=` term l | term l `!=` term l
---   terms l     ::= term l,..
---   term l      ::= variable | word
---   general l   ::= data l | data l `:` general l | list l
---   list l      ::= `[` `]` | `[` generals (l + 1) `]`
---   generals l  ::= general l,..
---   data l      ::= Upper | Integer | Distinct | word | word `(` generals (l + 1) `)`
--- Source: the TPTP syntax, FOF.
+-- The grammar of items as it is printed, where l counts the levels that are open: items       ::=
+-- item* item        ::= `fof` `(` name `,` role `,` formula 0 [ `,` general 0 [ `,` list 0 ] ] `)`
+-- `.` | `include` `(` Quoted [ `,` `[` names `]` ] `)` `.` names       ::= name,.. formula l   ::=
+-- unit l | unit l (`&` unit l)+ | unit l (`|` unit l)+ | unit l connective unit l unit l      ::=
+-- `(` formula (l + 1) `)` | `~` unit (l + 1) | `!` `[` variable,.. `]` `:` unit (l + 1) | `?` `[`
+-- variable,.. `]` `:` unit (l + 1) | `$true` | `$false` | word [ `(` terms l `)` ] | term l `=`
+-- term l | term l `!=` term l terms l     ::= term l,.. term l      ::= variable | word general l
+-- ::= data l | data l `:` general l | list l list l      ::= `[` `]` | `[` generals (l + 1) `]`
+-- generals l  ::= general l,.. data l      ::= Upper | Integer | Distinct | word | word `(`
+-- generals (l + 1) `)` Source: the TPTP syntax, FOF.
 use Rattle.std.specs.Prelude.{ℕ, ◌+◌, Bool, false, List, [], ◌∷◌}
 use Rattle.token_grammar.specs.Grammar.{Grammar}
 use Rattle.tptp_lexer.specs.declared.kind.Kind.{Kind}

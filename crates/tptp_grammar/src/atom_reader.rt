@@ -33,7 +33,8 @@ fn more_terms<'t, 'a>(
     first: Term,
     cursor: Cursor<'t, 'a>,
 ) -> Result<(List<Term>, Cursor<'t, 'a>), NotRead>
-    ensures { Gives (λ read. read) result (with_front (first ∷ []) (more_from term_from kind.Comma (length cursor.entry) cursor.entry)) }
+    ensures { Gives (λ read. read) result (with_front (first ∷ []) (more_from term_from kind.Comma
+        (length cursor.entry) cursor.entry)) }
 {
     let mut terms = List::new(alloc);
     terms.push(first)?;

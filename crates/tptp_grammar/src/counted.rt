@@ -55,7 +55,8 @@ impl Counted {
 
     /// The level of the newest binding, or 0.
     pub(crate) fn newest_level(&self) -> u32
-        ensures { result ≡ unwrap_or (option_map (λ b. b.level) (slice_get self.now (length self.now - 1))) 0 }
+        ensures { result ≡ unwrap_or (option_map (λ b. b.level) (slice_get self.now
+            (length self.now - 1))) 0 }
     {
         self.bindings.last().map_or(0, |newest| newest.level)
     }
@@ -92,7 +93,8 @@ impl Counted {
 // Makes the counts long enough for this number.
 fn make_room(counts: &mut Vec<usize>, number: usize) -> Result<(), Memory>
     ensures room { OnOk result (number < vec_len counts.new) }
-    ensures same { (other : ℕ) → slice_index counts.new.items other ≡ slice_index counts.old.items other }
+    ensures same { (other : ℕ) →
+        slice_index counts.new.items other ≡ slice_index counts.old.items other }
 {
     while counts.len() <= number {
         counts.push(0)?;

@@ -128,7 +128,8 @@ fn more_units<'t, 'a>(
     sign: Kind,
     depth: u32,
 ) -> Result<(List<Formula>, Cursor<'t, 'a>), NotRead>
-    ensures { Gives (λ read. read) result (with_front (first ∷ []) (more_from (unit_at depth) sign (length cursor.entry) cursor.entry)) }
+    ensures { Gives (λ read. read) result (with_front (first ∷ []) (more_from (unit_at depth) sign
+        (length cursor.entry) cursor.entry)) }
 {
     let mut units = List::new(alloc);
     units.push(first)?;

@@ -68,7 +68,8 @@ fn selection<'t, 'a>(
     alloc: Global,
     cursor: Cursor<'t, 'a>,
 ) -> Result<(Option<List<Name>>, Cursor<'t, 'a>), NotRead>
-    ensures { Gives (λ read. read) result (selection_from (behind kind.Comma cursor.entry) cursor.entry) }
+    ensures { Gives (λ read. read) result (selection_from
+        (behind kind.Comma cursor.entry) cursor.entry) }
 {
     match behind(&cursor, Kind::Comma) {
         None => Ok((None, cursor)),

@@ -70,7 +70,8 @@ fn told(
 /// Whether the tokens are a text, by the machine that reads any grammar.
 fn check_text(alloc: Global, tokens: &Tokens<'_>) -> Result<(), SyntaxRefusal>
     ensures accepted { OnOk result (IsAcceptedText (marks_of tokens.now.tokens)) }
-    ensures refused { IfErr result (λ refusal. (refusal ≡ refusals.Memory) ⊎ SyntaxFault tokens.now refusal) }
+    ensures refused { IfErr result (λ refusal. (refusal ≡ refusals.Memory) ⊎
+        SyntaxFault tokens.now refusal) }
 {
     let marks = Marks::new(alloc, tokens)?;
     let mut scopes = Scopes::new(alloc);

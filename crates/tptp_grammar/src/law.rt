@@ -19,7 +19,8 @@ use token_grammar::factored_agrees;
 /// The grammar that is read spells and begins the same tokens as the printed one.
 pub fn printed_agrees()
     ensures texts { (ts : List Mark) → IsText printed_items items ts ↔ IsText fof_items Items ts }
-    ensures beginnings { (ts : List Mark) → BeginsText printed_items items ts ↔ BeginsText fof_items Items ts }
+    ensures beginnings { (ts : List Mark) →
+        BeginsText printed_items items ts ↔ BeginsText fof_items Items ts }
 {
     factored_agrees::<PrintedForm>();
 }
@@ -36,7 +37,8 @@ pub fn refusals_are_one()
 
 /// Tokens that are a text of items have no refusal.
 pub fn never_items_and_refusal()
-    ensures { (source : Text) (ts : List Token) (items : List Item) (fault : Fault) → AreItemsOf ts items
+    ensures { (source : Text) (ts : List Token) (items : List Item) (fault : Fault) →
+        AreItemsOf ts items
         → SyntaxFault (record { source = source; tokens = ts }) fault → ⊥ }
 {}
 

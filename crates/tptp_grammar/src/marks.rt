@@ -72,7 +72,8 @@ fn number_token<'a>(
 ) -> Result<(), Memory>
     requires within { number < length tokens.now.tokens }
     requires before { AreNumbers (take number tokens.now.tokens) (number_in numbers.old) }
-    ensures { OnOk result (AreNumbers (take (number + 1) tokens.now.tokens) (number_in numbers.new)) }
+    ensures { OnOk result (AreNumbers (take (number + 1) tokens.now.tokens)
+        (number_in numbers.new)) }
 {
     let text = tokens.text(number as usize);
     match tokens.kind(number as usize) {
@@ -90,7 +91,8 @@ fn numbered<'a>(
     word: &'a [u8],
     number: u32,
 ) -> Result<u32, Memory>
-    ensures given { IfOk result (λ given. given ≡ unwrap_or (number_in numbers.old word.now) number) }
+    ensures given { IfOk result (λ given. given ≡ unwrap_or
+        (number_in numbers.old word.now) number) }
     ensures noted { IfOk result (λ given. (text : Text) → number_in numbers.new text
         ≡ (if bytes_eq word.now text then Some given else number_in numbers.old text)) }
 {

@@ -107,7 +107,8 @@ fn more_names<'t, 'a>(
     cursor: Cursor<'t, 'a>,
     naming: Naming,
 ) -> Result<(List<Name>, Cursor<'t, 'a>), NotRead>
-    ensures { Gives (λ read. read) result (with_front (first ∷ []) (more_from (name_from naming) kind.Comma (length cursor.entry) cursor.entry)) }
+    ensures { Gives (λ read. read) result (with_front (first ∷ []) (more_from
+        (name_from naming) kind.Comma (length cursor.entry) cursor.entry)) }
 {
     let mut names = List::new(alloc);
     names.push(first)?;

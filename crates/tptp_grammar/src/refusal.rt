@@ -15,7 +15,7 @@ pub enum SyntaxRefusal {
     /// All tokens begin a text and are none. The offset is the length of the source.
     #[error("EndOfText")]
     EndOfText(u32),
-    /// The token opens level 201.
+    /// The token opens a level above `MOST_LEVELS`.
     #[error("TooDeep")]
     TooDeep(u32),
     /// The token is where a role has to be, and tells none of the nine.

@@ -62,7 +62,8 @@ impl Scopes {
     /// A quantifier that opened this level binds the variable with this number. `Memory` is want of
     /// memory, and the bindings are as before.
     pub fn bind(&mut self, level: u32, variable: u32) -> Result<(), Memory>
-        ensures ok { OnOk result (self.new ≡ record { level = level; variable = variable } ∷ self.old) }
+        ensures ok { OnOk result
+            (self.new ≡ record { level = level; variable = variable } ∷ self.old) }
         ensures err { OnErr result (self.new ≡ self.old) }
     {
         let in_order = self.in_order && self.bindings.newest_level() <= level;

@@ -66,7 +66,8 @@ abbrev pub EndsBy : Option LexRefusal → ℕ → Text → Type 0
 EndsBy None = IsEnd
 EndsBy (Some refusal) = IsRefused refusal
 
--- the first refusal of the bytes: before it, or the quote that holds it, are tokens, blanks, comments
+-- the first refusal of the bytes: before it, or the quote that holds it, are tokens, blanks,
+-- comments
 abbrev pub LexFault : Text → LexRefusal → Type 0
 LexFault bytes refusal = (before : List Token) × Reads (IsRefused refusal) 0 bytes before
 

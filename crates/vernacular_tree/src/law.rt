@@ -69,7 +69,8 @@ pub fn proof_carries_over()
 pub fn rules_keep_contexts()
     ensures start { (constants : ℕ) (task : Task) → IsTask constants task
         → IsContext task (start_context task) }
-    ensures modus_ponens { (constants : ℕ) (task : Task) (context : Context) (form : Form) (args : List ℕ)
+    ensures modus_ponens { (constants : ℕ) (task : Task) (context : Context) (form : Form)
+        (args : List ℕ)
         → IsTask constants task → IsContext task context
         → IsWellFormed constants form → IsInstance context form args
         → IsContext task (after_mp context form args) }

@@ -1,8 +1,8 @@
-ghost use Rattle.std.specs.Prelude.{◌≡◌, ◌≤◌, ◌∷◌, ◌++◌, map, length, List as Lst, IfOk, OnOk};
+ghost use Rattle.std.specs.Prelude.{◌≡◌, ◌≤◌, ◌++◌, map, length, List as Lst, IfOk, OnOk};
 ghost use Rattle.std.specs.List.{flat_map, sum_by};
 ghost use Rattle.std.specs.Result.{IsErrOf};
 ghost use Rattle.vernacular_tree.specs.declared.nodes.TreeRefusal.{TreeRefusal};
-ghost use Rattle.vernacular_tree.specs.Sizes.{size, end_size, nesting, end_nesting};
+ghost use Rattle.vernacular_tree.specs.Sizes.{size, nesting, end_nesting};
 ghost use Rattle.vernacular_tree.specs.Preorders.{mp_node, end_nodes, preorder};
 ghost use Rattle.vernacular_tree.specs.declared.tree.Body.{Body as BodyValue};
 ghost use Rattle.vernacular_tree.specs.declared.tree.End.{End as EndValue};

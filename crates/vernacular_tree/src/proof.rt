@@ -1,4 +1,4 @@
-ghost use Rattle.std.specs.Prelude.{◌≡◌, ◌≤◌, ◌^◌, ◌-◌, min, length, map, IfOk};
+ghost use Rattle.std.specs.Prelude.{◌≡◌, ◌^◌, ◌-◌, min, IfOk};
 ghost use Rattle.std.specs.Result.{IsErrOf};
 ghost use Rattle.vernacular_tree.specs.declared.nodes.TreeRefusal.{TreeRefusal};
 ghost use Rattle.vernacular_tree.specs.Sizes.{size};
