@@ -24,7 +24,7 @@ abbrev pub Continues : {P T B : Type 0} → Grammar P T → (P → T → B → B
     B → List T → List P → B → Type 0
 Continues {T = T} {B = B} g takes passes first before us row now =
     (ts : List T) (after : B) → Acted g takes passes row now ts after →
-        Acted g takes passes first before (us ++ ts) after
+    Acted g takes passes first before (us ++ ts) after
 
 -- the first row comes to the part that takes the next token
 abbrev pub ComesTo : {P T B : Type 0} → Grammar P T → (P → T → B → B) → (P → B → B) → List P → B →

@@ -38,5 +38,5 @@ abbrev pub RowLaws : {P B : Type 0} (Value : P → Type 0) → ((p : P) → Valu
 RowLaws Value effect passes p [] makers = Unit {0}
 RowLaws {B = B} Value effect passes p (row ∷ rows) makers =
     ((values : RowValues Value row) (b : B) →
-        after_row Value effect passes p row values b ≡ effect p (makers.0 values) b) ×
+    after_row Value effect passes p row values b ≡ effect p (makers.0 values) b) ×
     RowLaws Value effect passes p rows makers.1

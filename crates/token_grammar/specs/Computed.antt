@@ -13,37 +13,49 @@ some_row test (row ∷ rows) = elim (test row) [ true ↦ true | false ↦ some_
 abbrev pub some_first : {P T : Type 0} → Grammar P T → (P → Bool) → List P → Bool
 some_first g test [] = false
 some_first g test (p ∷ row) =
-    elim (test p) [ true ↦ true | false ↦ elim
-    (is_nullable g p) [ true ↦ some_first g test row | false ↦ false ] ]
+    elim (test p) [
+      | true ↦ true
+      | false ↦ elim
+          (is_nullable g p) [ true ↦ some_first g test row | false ↦ false ]
+    ]
 
 -- whether some member passes after which each may stand for no tokens
 abbrev pub some_last : {P T : Type 0} → Grammar P T → (P → Bool) → List P → Bool
 some_last g test [] = false
 some_last g test (p ∷ row) =
-    elim (all_nullable g row) [ true ↦ elim
-    (test p) [ true ↦ true | false ↦ some_last g test row ] | false ↦ some_last g test row ]
+    elim (all_nullable g row) [
+      | true ↦ elim
+          (test p) [ true ↦ true | false ↦ some_last g test row ]
+      | false ↦ some_last g test row
+    ]
 
 -- whether the token may begin the part
 abbrev pub begins_part : {P T : Type 0} → Grammar P T → ℕ → T → P → Bool
 begins_part g zero t p = g.takes p t
 begins_part g (suc depth) t p =
-    elim (g.takes p t) [ true ↦ true | false ↦ some_row (some_first g (begins_part g depth t))
-    (g.alternatives p) ]
+    elim (g.takes p t) [
+      | true ↦ true
+      | false ↦ some_row (some_first g (begins_part g depth t))
+          (g.alternatives p)
+    ]
 
 -- the number of the first row that passes
 abbrev pub number_of : {P : Type 0} → (List P → Bool) → List (List P) → Option ℕ
 number_of test [] = None
 number_of test (row ∷ rows) =
-    elim (test row) [ true ↦ Some 0 | false ↦ elim
-    (number_of test rows) [ None ↦ None | Some n ↦ Some (suc n) ] ]
+    elim (test row) [
+      | true ↦ Some 0
+      | false ↦ elim
+          (number_of test rows) [ None ↦ None | Some n ↦ Some (suc n) ]
+    ]
 
 -- the number of the row that the token may begin, or else of the empty one
 abbrev pub computed_choice : {P T : Type 0} → Grammar P T → ℕ → P → T → Option ℕ
 computed_choice g depth p t =
     elim (number_of (some_first g (begins_part g depth t)) (g.alternatives p)) [
-  | Some n ↦ Some n
-  | None ↦ number_of is_empty (g.alternatives p)
-]
+      | Some n ↦ Some n
+      | None ↦ number_of is_empty (g.alternatives p)
+    ]
 
 -- whether the part may be empty, or begin with the token
 abbrev pub empty_or_begins : {P T : Type 0} → Grammar P T → ℕ → T → P → Bool
@@ -55,8 +67,11 @@ empty_or_begins g depth t p =
 abbrev pub goes_on : {P T : Type 0} → Grammar P T → ℕ → ℕ → T → P → Bool
 goes_on g depth zero t p = false
 goes_on g depth (suc n) t p =
-    elim (empty_or_begins g depth t p) [ true ↦ true | false ↦ some_row (some_last g
-    (goes_on g depth n t)) (g.alternatives p) ]
+    elim (empty_or_begins g depth t p) [
+      | true ↦ true
+      | false ↦ some_row (some_last g
+          (goes_on g depth n t)) (g.alternatives p)
+    ]
 
 -- the greatest number of a list, each with one more
 abbrev pub dearest : {A : Type 0} → (A → ℕ) → List A → ℕ

@@ -22,6 +22,9 @@ abbrev pub making_by : {P T : Type 0} (g : Grammar P T) (Value : P → Type 0) �
     IsTrue (g.takes p t) → Value p) →
     ((p : P) → Makers Value (Value p) (g.alternatives p)) → Making g Value
 making_by g Value of_token makers =
-    record { of_token =
-        of_token; of_row = λ p choice values. made_at Value (g.alternatives p)
-        (makers p) choice values }
+    record {
+      of_token =
+          of_token;
+      of_row = λ p choice values. made_at Value (g.alternatives p)
+          (makers p) choice values;
+    }

@@ -30,5 +30,8 @@ pub record IsDecided {P T S F : Type 0} (watcher : Watcher P T S F) : Type 0 whe
 -- a watcher that computes what it does: a further state, or a fault
 abbrev pub watcher_of : {P T S F : Type 0} → (S → P → T → Result S F) → Watcher P T S F
 watcher_of look =
-    record { sees = λ before p t after. look before p t ≡ Ok after; faults = λ before p t fault.
-    look before p t ≡ Err fault }
+    record {
+      sees = λ before p t after. look before p t ≡ Ok after;
+      faults = λ before p t fault.
+          look before p t ≡ Err fault;
+    }

@@ -79,8 +79,12 @@ rule_effect Operand expression b = record b { current = expression }
 rule_effect Atom expression b = record b { current = expression }
 rule_effect Rest others b = record b { current = with_rest b.current others }
 rule_effect More others b =
-    record b { current =
-        value.Sum (b.operands ++ others); operands = top_or [] b.sums; sums = below b.sums }
+    record b {
+      current =
+          value.Sum (b.operands ++ others);
+      operands = top_or [] b.sums;
+      sums = below b.sums;
+    }
 rule_effect Members list b = record b { members = b.members ++ list; current = value.Number 0 }
 rule_effect Others list b = record b { members = b.members ++ list; current = value.Number 0 }
 rule_effect Join done b = operand_added b

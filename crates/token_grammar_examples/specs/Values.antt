@@ -57,8 +57,19 @@ makers (Row Operand) =
 makers (Row Negate) = ((λ none. tt), tt)
 makers (Row Atom) = (
   (λ (number, end). number_of number),
-  ((λ (bracket, (whole, (close, end))). whole), ((λ (bracket, (members,
-      (close, end))). value.Row members), tt)),
+  (
+    (λ (bracket, (whole, (close, end))). whole),
+    (
+      (λ (
+        bracket,
+        (
+          members,
+          (close, end),
+        ),
+      ). value.Row members),
+      tt,
+    ),
+  ),
 )
 makers (Row Members) = ((λ none. []), ((λ (first, (add, (others, end))). first ∷ others), tt))
 makers (Row Others) = ((λ none. []), ((λ (comma, (next, (add, (others, end)))). next ∷ others), tt))

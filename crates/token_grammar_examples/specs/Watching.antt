@@ -13,14 +13,14 @@ use Rattle.token_grammar_examples.specs.declared.symbol.Taker.TheVariants.{Numbe
 -- a number or a row is counted, or is one too many
 abbrev pub counted : Count → Result Count Fault.Fault
 counted count =
-    if nat_lt count.pieces MOST_PIECES then Ok
-    (record count { pieces = count.pieces + 1 }) else Err TooMany
+    if nat_lt count.pieces MOST_PIECES then Ok (record count { pieces = count.pieces + 1 })
+    else Err TooMany
 
 -- a bracket or a row opens, or is too deep
 abbrev pub opened : Count → Result Count Fault.Fault
 opened count =
-    if nat_lt count.level MOST_LEVELS then Ok
-    (record count { level = count.level + 1 }) else Err TooDeep
+    if nat_lt count.level MOST_LEVELS then Ok (record count { level = count.level + 1 })
+    else Err TooDeep
 
 abbrev pub opened_after : Result Count Fault.Fault → Result Count Fault.Fault
 opened_after (Ok count) = opened count
