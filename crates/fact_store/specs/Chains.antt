@@ -2,25 +2,29 @@
 use Rattle.std.specs.Prelude.{◌≡◌, ℕ, suc, ◌<◌, Bool, ◌==◌, List, [], ◌∷◌, length, take, get_or, Option, None, Some, if◌then◌else◌}
 use Rattle.std.specs.List.{AllByRecursion}
 
--- a place in the rest of a list, moved on by one; where there is none, the first place if it is wanted
+-- a number in the rest of a list, as one in the whole list; where there is none, 0 if the first
+-- item is wanted
 abbrev pub or_first : Bool → Option ℕ → Option ℕ
 or_first wanted None = if wanted then Some 0 else None
-or_first wanted (Some place) = Some (suc place)
+or_first wanted (Some number) = Some (suc number)
 
--- the last place at which a key stands
+-- the greatest number of a key
 unfoldable pub latest : ℕ → List ℕ → Option ℕ
 latest key [] = None
 latest key (k ∷ keys) = or_first (k == key) (latest key keys)
 
--- what chains are seen as: the keys in order of addition, how many keys there may be, and how many places fit
+-- what chains are seen as: the keys in order of addition, how many keys there may be, and for how
+-- many there is room
 pub record Keyed : Type 0 where
   pub keys : List ℕ
   pub width : ℕ
   pub room : ℕ
 
--- each head is the last place of its key, and each place leads to the one before it with the same key
+-- each head is the greatest number of its key, and each number leads to the greatest smaller one
+-- with the same key
 pub record AreChained (heads olds : List (Option ℕ)) (keys : List ℕ) : Type 0 where
   pub in_range : AllByRecursion (λ key. key < length heads) keys
   pub one_each : length olds ≡ length keys
   pub head : (key : ℕ) → key < length heads → get_or heads key None ≡ latest key keys
-  pub older : (place : ℕ) → place < length keys → get_or olds place None ≡ latest (get_or keys place 0) (take place keys)
+  pub older : (number : ℕ) → number < length keys
+      → get_or olds number None ≡ latest (get_or keys number 0) (take number keys)

@@ -3,15 +3,18 @@ use Rattle.std.specs.Prelude.{◌≡◌, ℕ, ◌+◌, ◌*◌, ◌%◌, ◌/◌
 use Rattle.fact_store.specs.declared.entry.Entry.{Entry}
 use Rattle.fact_store.specs.Facts.{Fact}
 
--- the fact that an entry stands for
+-- the fact of an entry
 abbrev pub fact_in : List ℕ → Entry → Fact
-fact_in args entry = record { signed = entry.signed; args = take entry.count (drop entry.start args) }
+fact_in args entry = record {
+  signed = entry.signed;
+  args = take entry.count (drop entry.start args);
+}
 
 -- the facts of all entries
 abbrev pub facts_in : List ℕ → List Entry → List Fact
 facts_in args entries = map (fact_in args) entries
 
--- the entries' parts follow one another from a place to an end
+-- the entries' parts follow one another from a start to an end
 abbrev pub AreLaid : ℕ → List Entry → ℕ → Type 0
 AreLaid at [] end = at ≡ end
 AreLaid at (entry ∷ entries) end = (entry.start ≡ at) × AreLaid (at + entry.count) entries end

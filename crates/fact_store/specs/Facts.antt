@@ -4,13 +4,14 @@ use Rattle.std.specs.List.{list_any, IsDistinct}
 use Rattle.std.specs.Cmp.Lexicographic.{pointwise}
 use Rattle.fact_store.specs.Chains.{latest}
 
--- a fact: a signed symbol, which is twice the symbol and one more for the complement, with its elements
+-- a fact: a signed symbol, which is twice the symbol and one more for the complement, with its
+-- elements
 pub record Fact : Type 0 where
   pub signed : ℕ
   pub args : List ℕ
 
--- a store: its facts in order of addition, how many facts and how many arguments may be added, and the bound of
--- its signed symbols
+-- a store: its facts in order of addition, how many facts and how many arguments may be added, and
+-- the bound of its signed symbols
 pub record Facts : Type 0 where
   pub facts : List Fact
   pub spare_facts : ℕ
@@ -33,6 +34,8 @@ AreDistinctFacts facts = IsDistinct (λ f g. is_fact f.signed f.args g) facts
 abbrev pub newest_of : ℕ → List Fact → Option ℕ
 newest_of signed facts = latest signed (map (λ fact. fact.signed) facts)
 
--- the greatest number below that of a fact, of a fact with the same symbol; none where there is no such fact
+-- the greatest number below that of a fact, of a fact with the same symbol; none where there is no
+-- such fact
 abbrev pub older_of : ℕ → List Fact → Option ℕ
-older_of fact facts = option_and_then (λ f. newest_of f.signed (take fact facts)) (slice_get facts fact)
+older_of fact facts =
+    option_and_then (λ f. newest_of f.signed (take fact facts)) (slice_get facts fact)

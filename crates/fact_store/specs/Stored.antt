@@ -12,8 +12,10 @@ pub record AreInBuckets (buckets : Keyed) (entries : List Entry) (args : List �
   pub some_buckets : 0 < buckets.width
   pub few_buckets : buckets.width < 2 ^ 32
 
--- both kinds of chains have each fact, no fact stands twice, and the parts have the room that was reserved
-pub record AreStored (symbols buckets : Keyed) (entries : List Entry) (args : List ℕ) (room args_room capacity args_capacity : ℕ) : Type 0 where
+-- both kinds of chains have each fact, no fact stands twice, and the parts have the room that was
+-- reserved
+pub record AreStored (symbols buckets : Keyed) (entries : List Entry) (args : List ℕ)
+    (room args_room capacity args_capacity : ℕ) : Type 0 where
   pub signed : symbols.keys ≡ map (λ entry. entry.signed) entries
   pub in_buckets : AreInBuckets buckets entries args
   pub distinct : AreDistinctFacts (facts_in args entries)

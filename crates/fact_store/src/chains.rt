@@ -1,11 +1,12 @@
 ghost use Rattle.std.specs.Prelude.{◌≡◌, ◌+◌, ◌-◌, ◌<◌, ◌≤◌, ◌^◌, [], ◌∷◌, vec_len, vec_capacity, ◌++◌, length, take, slice_get, slice_index, Some, None, replicate, IfOk, OnOk, OnErr};
 ghost use Rattle.fact_store.specs.Chains.{latest};
 
-use text_core::Memory;
 use std::alloc::Global;
 use std::marker::Model;
+use text_core::Memory;
 
-/// Places with keys, in order of addition. Each place leads to the newest older place with the same key.
+/// Keys in order of addition, numbered from 0. Each number leads to the greatest smaller one with
+/// the same key.
 #[derive(Drop)]
 pub(crate) struct Chains {
     keys: Vec<u32>,
@@ -20,14 +21,19 @@ impl Model for Chains {
 
     ghost Value = { Keyed };
 
-    ghost view = { λ c. record { keys = c.keys.items; width = length c.heads.items; room = c.room } };
+    ghost view = { λ c. record {
+      keys = c.keys.items;
+      width = length c.heads.items;
+      room = c.room;
+    } };
 
     ghost invariant = { λ c. (AreChained c.heads.items c.olds.items c.keys.items)
-        × (length c.keys.items ≤ c.room) × (c.room < 2 ^ 32) × (c.room ≤ vec_capacity c.keys) × (c.room ≤ vec_capacity c.olds) };
+        × (length c.keys.items ≤ c.room) × (c.room < 2 ^ 32)
+        × (c.room ≤ vec_capacity c.keys) × (c.room ≤ vec_capacity c.olds) };
 }
 
 impl Chains {
-    /// No places, for keys below `width`, with room for none. `Memory` is want of memory.
+    /// No keys, for keys below `width`, with room for none. `Memory` is want of memory.
     pub(crate) fn new(alloc: Global, width: usize) -> Result<Chains, Memory>
         ensures { IfOk result (λ chains. chains ≡ record { keys = []; width = width; room = 0 }) }
     {
@@ -39,7 +45,7 @@ impl Chains {
         })
     }
 
-    /// Makes room for so many places in all. `Memory` is want of memory, and the room is as before.
+    /// Makes room for so many keys in all. `Memory` is want of memory, and the room is as before.
     pub(crate) fn reserve(&mut self, room: usize) -> Result<(), Memory>
         requires { room < 2 ^ 32 }
         ensures ok { OnOk result (room ≤ self.new.room) }
@@ -65,44 +71,46 @@ impl Chains {
         self.heads.len()
     }
 
-    /// Adds a place with this key.
+    /// Adds a key.
     pub(crate) fn add(&mut self, key: u32)
         requires in_range { key < self.old.width }
         requires fits { length self.old.keys < self.old.room }
         ensures { self.new ≡ record self.old { keys = self.old.keys ++ key ∷ [] } }
     {
-        let place = self.keys.len() as u32;
+        let number = self.keys.len() as u32;
         push_within(&mut self.olds, self.heads[key as usize]);
         push_within(&mut self.keys, key);
-        self.heads[key as usize] = Some(place);
+        self.heads[key as usize] = Some(number);
     }
 
-    /// Takes the newest place away, if there is one.
+    /// Takes the newest key away, if there is one.
     pub(crate) fn pop(&mut self)
-        ensures { self.new ≡ record self.old { keys = take (length self.old.keys - 1) self.old.keys } }
+        ensures { self.new ≡ record self.old {
+          keys = take (length self.old.keys - 1) self.old.keys;
+        } }
     {
         if let (Some(key), Some(older)) = (self.keys.pop(), self.olds.pop()) {
             self.heads[key as usize] = older;
         }
     }
 
-    /// Takes away all places but the first ones.
-    pub(crate) fn cut(&mut self, mark: usize)
-        ensures { self.new ≡ record self.old { keys = take mark self.old.keys } }
+    /// Takes away all keys but so many of the first ones.
+    pub(crate) fn cut(&mut self, kept: usize)
+        ensures { self.new ≡ record self.old { keys = take kept self.old.keys } }
     {
-        while self.len() > mark {
+        while self.len() > kept {
             self.pop();
         }
     }
 
-    /// The number of places.
+    /// How many keys were added.
     pub(crate) fn len(&self) -> usize
         ensures { result ≡ length self.now.keys }
     {
         self.keys.len()
     }
 
-    /// The newest place with this key.
+    /// The greatest number of this key.
     pub(crate) fn newest(&self, key: u32) -> Option<u32>
         ensures { result ≡ latest key self.now.keys }
     {
@@ -113,12 +121,12 @@ impl Chains {
         }
     }
 
-    /// The newest place before this one with the same key.
-    pub(crate) fn older(&self, place: u32) -> Option<u32>
-        requires { place < length self.now.keys }
-        ensures { result ≡ latest (slice_index self.now.keys place) (take place self.now.keys) }
+    /// The greatest number below this one with the same key.
+    pub(crate) fn older(&self, number: u32) -> Option<u32>
+        requires { number < length self.now.keys }
+        ensures { result ≡ latest (slice_index self.now.keys number) (take number self.now.keys) }
     {
-        self.olds[place as usize]
+        self.olds[number as usize]
     }
 }
 

@@ -2,7 +2,7 @@ ghost use Rattle.std.specs.Prelude.{◌≡◌, ◌+◌, ◌<◌, ◌≤◌, ◌�
 ghost use Rattle.fact_store.specs.Facts.{is_fact};
 ghost use Rattle.fact_store.specs.Entries.{fact_in, mixed, bucket_of};
 
-/// A fact: its signed symbol, and where its elements stand among all arguments.
+/// A fact: its signed symbol, and which of all arguments are its elements.
 #[derive(Clone, Copy, Debug)]
 pub struct Entry {
     pub signed: u32,

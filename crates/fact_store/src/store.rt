@@ -6,12 +6,13 @@ ghost use Rattle.fact_store.specs.Facts.{Facts, stands, newest_of, older_of, Are
 use crate::chains::{Chains, extend_within, push_within};
 use crate::entry::{Entry, args_of, bucket};
 use crate::walk::{grow, stands_in};
-use text_core::Memory;
 use std::alloc::Global;
 use std::marker::Model;
+use text_core::Memory;
 
-/// Facts in order of addition, no fact twice. Facts are found by their symbol and by equality, and the newest ones
-/// can be taken back. Contracts see the list of facts and how many facts and arguments may be added.
+/// Facts in order of addition, no fact twice. Facts are found by their symbol and by equality, and
+/// the newest ones can be taken back. Contracts see the list of facts and how many facts and
+/// arguments may be added.
 #[derive(Drop)]
 pub struct Store {
     alloc: Global,
@@ -38,13 +39,15 @@ impl Model for Store {
       signed = s.by_symbol.width;
     } };
 
-    ghost invariant = { λ s. AreStored s.by_symbol s.by_bucket s.entries.items s.args.items s.room s.args_room (vec_capacity s.entries) (vec_capacity s.args) };
+    ghost invariant = { λ s. AreStored s.by_symbol s.by_bucket s.entries.items s.args.items
+        s.room s.args_room (vec_capacity s.entries) (vec_capacity s.args) };
 }
 
 impl Store {
     /// No facts and nothing spare, for signed symbols below `signed`. `Memory` is want of memory.
     pub fn new(alloc: Global, signed: u32) -> Result<Store, Memory>
-        ensures { IfOk result (λ store. store ≡ record { facts = []; spare_facts = 0; spare_args = 0; signed = signed }) }
+        ensures { IfOk result (λ store. store
+            ≡ record { facts = []; spare_facts = 0; spare_args = 0; signed = signed }) }
     {
         Ok(Store {
             alloc,
@@ -57,8 +60,8 @@ impl Store {
         })
     }
 
-    /// Makes room for so many more facts with so many elements in all. There are at most 4,294,967,295 facts with
-    /// them. `Memory` is want of memory, and the store is as before.
+    /// Makes room for so many more facts with so many elements in all. There are at most
+    /// 4,294,967,295 facts with them. `Memory` is want of memory, and the store is as before.
     pub fn reserve(&mut self, facts: u32, args: u32) -> Result<(), Memory>
         requires { length self.old.facts + facts ≤ 4294967295 }
         ensures spare_facts { OnOk result (facts ≤ self.new.spare_facts) }
@@ -85,8 +88,9 @@ impl Store {
         Ok(())
     }
 
-    /// Adds a fact at the end: `true`. `false` exactly where it stands already, and then nothing changes. There
-    /// is a spare fact, there are spare arguments for its elements, and its symbol is in range.
+    /// Adds a fact at the end: `true`. `false` exactly where it stands already, and then nothing
+    /// changes. There is a spare fact, there are spare arguments for its elements, and its symbol
+    /// is in range.
     pub fn add(&mut self, signed: u32, args: &[u32]) -> bool
         requires in_range { signed < self.old.signed }
         requires spare_fact { 0 < self.old.spare_facts }
@@ -136,31 +140,33 @@ impl Store {
         self.entries.len() as u32
     }
 
-    /// A mark to which `undo` goes back: the number of facts.
-    pub fn mark(&self) -> u32
+    /// An undo point, to which `undo` goes back: how many facts there are.
+    pub fn undo_point(&self) -> u32
         ensures { result ≡ length self.now.facts }
     {
         self.entries.len() as u32
     }
 
-    /// Takes back all facts but the first ones, and makes what they took spare again.
-    pub fn undo(&mut self, mark: u32)
-        requires { mark ≤ length self.old.facts }
+    /// Takes back all facts that were added since an undo point, and makes what they took spare
+    /// again.
+    pub fn undo(&mut self, undo_point: u32)
+        requires { undo_point ≤ length self.old.facts }
         ensures { self.new ≡ record self.old {
-          facts = take mark self.old.facts;
-          spare_facts = self.old.spare_facts + (length self.old.facts - mark);
-          spare_args = self.old.spare_args + sum_by (λ fact. length fact.args) (drop mark self.old.facts);
+          facts = take undo_point self.old.facts;
+          spare_facts = self.old.spare_facts + (length self.old.facts - undo_point);
+          spare_args = self.old.spare_args
+              + sum_by (λ fact. length fact.args) (drop undo_point self.old.facts);
         } }
     {
-        let mark = mark as usize;
-        if mark >= self.entries.len() {
+        let kept = undo_point as usize;
+        if kept >= self.entries.len() {
             return;
         }
-        let start = self.entries[mark].start;
-        self.by_symbol.cut(mark);
-        self.by_bucket.cut(mark);
+        let start = self.entries[kept].start;
+        self.by_symbol.cut(kept);
+        self.by_bucket.cut(kept);
         self.args.truncate(start);
-        self.entries.truncate(mark);
+        self.entries.truncate(kept);
     }
 
     /// The newest fact with this symbol; `None` exactly where there is none.

@@ -5,8 +5,8 @@ ghost use Rattle.fact_store.specs.Stored.{AreInBuckets};
 
 use crate::chains::Chains;
 use crate::entry::{Entry, args_of, bucket, is_entry_of};
-use text_core::Memory;
 use std::alloc::Global;
+use text_core::Memory;
 
 /// Whether a fact stands among the entries, looked for in the chain of its bucket.
 pub(crate) fn stands_in(
@@ -20,17 +20,17 @@ pub(crate) fn stands_in(
     ensures { result ≡ stands signed sought.now (facts_in args.now entries.now) }
 {
     let mut at = buckets.newest(bucket(signed, sought, buckets.width() as u32));
-    while let Some(place) = at {
-        if is_entry_of(signed, sought, entries[place as usize], args) {
+    while let Some(number) = at {
+        if is_entry_of(signed, sought, entries[number as usize], args) {
             return true;
         }
-        at = buckets.older(place);
+        at = buckets.older(number);
     }
     false
 }
 
-/// Makes room for so many places, and as many buckets at least; where there are too few, their number doubles.
-/// `Memory` is want of memory, and the buckets are as before.
+/// Makes room for so many facts, and as many buckets at least; where there are too few, their
+/// number doubles. `Memory` is want of memory, and the buckets are as before.
 pub(crate) fn grow(
     alloc: Global,
     buckets: &mut Chains,
@@ -53,7 +53,7 @@ pub(crate) fn grow(
     Ok(())
 }
 
-/// All entries in as many buckets as there are to be, with room for as many places.
+/// All entries in as many buckets as there are to be, with room for as many facts.
 fn in_buckets(
     alloc: Global,
     entries: &[Entry],
@@ -64,7 +64,8 @@ fn in_buckets(
     requires fits { length entries.now ≤ width }
     requires some { 0 < width }
     requires few { width < 2 ^ 32 }
-    ensures keys { IfOk result (λ buckets. buckets.keys ≡ map (bucket_of width) (facts_in args.now entries.now)) }
+    ensures keys { IfOk result (λ buckets. buckets.keys
+        ≡ map (bucket_of width) (facts_in args.now entries.now)) }
     ensures width { IfOk result (λ buckets. buckets.width ≡ width) }
     ensures room { IfOk result (λ buckets. width ≤ buckets.room) }
 {

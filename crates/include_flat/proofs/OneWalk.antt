@@ -4,11 +4,10 @@ use Rattle.text_core.specs.Names.{Text}
 use Rattle.logic_core.specs.declared.problem.Item.{Item}
 use Rattle.io_core.specs.Held.{Held}
 use Rattle.tptp_lexer.specs.Tokens.{Token}
-use Rattle.tptp_lexer.proofs.Exact as exact
-use Rattle.tptp_grammar.specs.Texts.{AreItemsOf, SyntaxFault}
-use Rattle.tptp_grammar.proofs.Faults as faults
-use Rattle.tptp_grammar.proofs.ItemsRead.{one_text}
-use Rattle.tptp_grammar.proofs.Accepted.{text_no_fault}
+use Rattle.tptp_lexer.proofs.Laws as exact
+use Rattle.tptp_grammar.specs.Spells.{AreItemsOf}
+use Rattle.tptp_grammar.specs.Texts.{SyntaxFault}
+use Rattle.tptp_grammar.proofs.Laws.{items_same, fault_same, items_no_fault}
 use Rattle.include_flat.specs.declared.refusal.FlatWhy.TheVariants.{Lex, Syntax}
 use Rattle.include_flat.specs.Walks.{Entry, Selections, WalksFile, WalksBytes, WalksItems, kept_entries, with_selection}
 use Rattle.include_flat.specs.Walks.Entry.{fetched, stop}
@@ -53,19 +52,19 @@ module _ (held : Held) where
         absurd (exact.never_both bytes ts other tokens also)
     one_of_bytes left selections file bytes _ _ (no_items ts refusal tokens fault) (no_items us other others also) =
         let same = exact.one_list bytes ts us tokens others in
-        ap (λ r. stop file (Syntax r) ∷ []) (faults.one_fault (record { source = bytes; tokens = ts }) refusal other fault
+        ap (λ r. stop file (Syntax r) ∷ []) (fault_same (record { source = bytes; tokens = ts }) refusal other fault
         (subst (λ (xs : List Token). SyntaxFault (record { source = bytes; tokens = xs }) other) (sym same) also))
     one_of_bytes left selections file bytes _ b (no_items ts refusal tokens fault) (with_items us items others text walk) =
         let same = exact.one_list bytes ts us tokens others in
-        absurd (text_no_fault bytes ts items refusal (subst (λ (xs : List Token). AreItemsOf xs items) (sym same) text) fault)
+        absurd (items_no_fault (record { source = bytes; tokens = ts }) items refusal (subst (λ (xs : List Token). AreItemsOf xs items) (sym same) text) fault)
     one_of_bytes left selections file bytes a _ (with_items ts items tokens text walk) (no_tokens refusal fault) =
         absurd (exact.never_both bytes ts refusal tokens fault)
     one_of_bytes left selections file bytes a _ (with_items ts items tokens text walk) (no_items us refusal others fault) =
         let same = exact.one_list bytes ts us tokens others in
-        absurd (text_no_fault bytes us items refusal (subst (λ (xs : List Token). AreItemsOf xs items) same text) fault)
+        absurd (items_no_fault (record { source = bytes; tokens = us }) items refusal (subst (λ (xs : List Token). AreItemsOf xs items) same text) fault)
     one_of_bytes left selections file bytes a b (with_items ts items tokens text walk) (with_items us others also also_text other) =
         let same = exact.one_list bytes ts us tokens also in
-        let one = one_text items others ts text.spelled (subst (λ (xs : List Token). AreItemsOf xs others) (sym same) also_text).spelled in
+        let one = items_same ts items others text (subst (λ (xs : List Token). AreItemsOf xs others) (sym same) also_text) in
         one_of_items left selections file items a b walk
         (subst (λ (xs : List Item). WalksItems held left selections file xs b) (sym one) other)
 

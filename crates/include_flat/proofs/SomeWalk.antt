@@ -10,10 +10,10 @@ use Rattle.io_core.specs.Held.{Held}
 use Rattle.tptp_lexer.specs.declared.refusal.LexRefusal.{LexRefusal}
 use Rattle.tptp_lexer.specs.Tokens.{Token, AreTokens}
 use Rattle.tptp_lexer.specs.Refused.{LexFault}
-use Rattle.tptp_lexer.proofs.Exact.{some_answer}
+use Rattle.tptp_lexer.proofs.Laws.{some_answer}
 use Rattle.tptp_grammar.specs.declared.refusal.SyntaxRefusal.{SyntaxRefusal}
 use Rattle.tptp_grammar.specs.Texts.{AreItemsOf, SyntaxFault}
-use Rattle.tptp_grammar.proofs.ItemsOrRefusal.{items_or_refusal}
+use Rattle.tptp_grammar.proofs.Laws.{items_or_refusal}
 use Rattle.include_flat.specs.declared.refusal.FlatWhy.TheVariants.{Lex, Syntax, FileTooLong, IncludeDepth}
 use Rattle.include_flat.specs.Walks.{Entry, Selections, WalksFile, WalksBytes, WalksItems, kept_entries, with_selection}
 use Rattle.include_flat.specs.Walks.Entry.{fetched, missing, stop}

@@ -11,7 +11,8 @@ use Rattle.tptp_lexer.specs.Tokens.{Token, AreTokens}
 use Rattle.tptp_lexer.specs.Refused.{LexFault}
 use Rattle.tptp_grammar.specs.declared.refusal.SyntaxRefusal.{SyntaxRefusal}
 use Rattle.tptp_grammar.specs.declared.refusal.SyntaxRefusal.TheVariants as grammar
-use Rattle.tptp_grammar.specs.Texts.{AreItemsOf, SyntaxFault}
+use Rattle.tptp_grammar.specs.Spells.{AreItemsOf}
+use Rattle.tptp_grammar.specs.Texts.{SyntaxFault}
 use Rattle.include_flat.specs.declared.refusal.FlatWhy.{FlatWhy}
 use Rattle.include_flat.specs.declared.refusal.FlatWhy.TheVariants.{Lex, Syntax, FileFault, FileTooLong, Memory}
 

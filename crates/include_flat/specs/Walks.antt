@@ -14,7 +14,8 @@ use Rattle.tptp_lexer.specs.declared.refusal.LexRefusal.{LexRefusal}
 use Rattle.tptp_lexer.specs.Tokens.{Token, AreTokens}
 use Rattle.tptp_lexer.specs.Refused.{LexFault}
 use Rattle.tptp_grammar.specs.declared.refusal.SyntaxRefusal.{SyntaxRefusal}
-use Rattle.tptp_grammar.specs.Texts.{AreItemsOf, SyntaxFault}
+use Rattle.tptp_grammar.specs.Spells.{AreItemsOf}
+use Rattle.tptp_grammar.specs.Texts.{SyntaxFault}
 use Rattle.include_flat.specs.declared.refusal.FlatWhy.{FlatWhy}
 use Rattle.include_flat.specs.declared.refusal.FlatWhy.TheVariants.{Lex, Syntax, FileTooLong, IncludeDepth}
 

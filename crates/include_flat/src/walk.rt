@@ -4,7 +4,7 @@ ghost use Rattle.logic_core.specs.declared.problem.Fof.{Fof as Formula};
 ghost use Rattle.io_core.specs.Known.{Stays, Fails};
 ghost use Rattle.include_flat.specs.declared.refusal.FlatWhy.{FlatWhy as Why};
 ghost use Rattle.include_flat.specs.declared.refusal.FlatWhy.TheVariants as whys;
-ghost use Rattle.logic_core.specs.Problems.{FofMayStand};
+ghost use Rattle.logic_core.specs.Allowed.{FofIsAllowed};
 ghost use Rattle.include_flat.specs.Flattened.{IsFlat};
 ghost use Rattle.include_flat.specs.Refusals.{IsFlatRefused, IsFlatRefusal, IsOutside, TellsMemoryAlone};
 ghost use Rattle.include_flat.specs.Walks.{with_selection, kept_entries};
@@ -150,7 +150,7 @@ fn walk_inclusion<F: Files>(
 
 /// Keeps a formula whose name is in every selection.
 fn keep_selected(walked: &mut Walked, selected: &Selected, fof: Fof) -> Result<(), FlatWhy>
-    requires { FofMayStand fof }
+    requires { FofIsAllowed fof }
     ensures passes { OnOk result ((file : Text) →
         Passes walked.old (kept_entries file (selections_of selected.now) fof) walked.new) }
     ensures refused { IfErr result (IsNotKept walked.old (selections_of selected.now) fof) }

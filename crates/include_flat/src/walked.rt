@@ -1,6 +1,6 @@
 ghost use Rattle.std.specs.Prelude.{◌≡◌, ◌+◌, ◌++◌, ◌∷◌, [], ◌<◌, ◌≤◌, ◌⊎◌, length, OnOk, IfErr};
 ghost use Rattle.text_core.specs.declared.limits.TheConstants.{MOST_PROBLEM_BYTES};
-ghost use Rattle.logic_core.specs.Problems.{FofMayStand};
+ghost use Rattle.logic_core.specs.Allowed.{FofIsAllowed};
 ghost use Rattle.include_flat.specs.declared.refusal.FlatWhy.TheVariants as whys;
 
 use crate::refusal::FlatWhy;
@@ -45,7 +45,7 @@ impl Walked {
 
     /// Keeps one more formula, where they are not too many.
     pub(crate) fn keep(&mut self, fof: Fof) -> Result<(), FlatWhy>
-        requires { FofMayStand fof }
+        requires { FofIsAllowed fof }
         ensures kept { OnOk result (self.new.problem ≡ self.old.problem ++ fof ∷ []) }
         ensures few { OnOk result (length self.old.problem < MOST_FORMULAS) }
         ensures bytes { self.new.bytes ≡ self.old.bytes }

@@ -9,7 +9,7 @@ use Rattle.logic_core.specs.declared.problem.Fof.{Fof}
 use Rattle.logic_core.specs.declared.problem.Item.TheVariants.{Fof as ItemFof}
 use Rattle.io_core.specs.Causes.{Held, Rose, IsLong, AppendsPrefix}
 use Rattle.tptp_lexer.specs.Tokens.{Token, AreTokens}
-use Rattle.tptp_grammar.specs.Texts.{AreItemsOf}
+use Rattle.tptp_grammar.specs.Spells.{AreItemsOf}
 use Rattle.tptp_printer.specs.Canonical.{problem_text}
 use Rattle.include_flat.specs.declared.refusal.FlatWhy.{FlatWhy}
 use Rattle.include_flat.specs.declared.refusal.FlatWhy.TheVariants as flat

@@ -1,5 +1,5 @@
--- Coherent forms: when one is well-formed, and when it is true. Source: the coherent formulas of the 2014 paper
--- "A Vernacular for Coherent Logic".
+-- Coherent forms: when one is well-formed, and when it is true. Source: the coherent formulas of
+-- the 2014 paper "A Vernacular for Coherent Logic".
 use Rattle.std.specs.Prelude.{ℕ, ◌+◌, ◌<◌, ◌≡◌, ◌==◌, zero, suc, Bool, false, List, [], ◌∷◌, ◌++◌, map, length, slice_get, slice_index, Option, Some, None}
 use Rattle.std.specs.List.{AllByRecursion}
 use Rattle.text_core.specs.Numbered.{Symbol, Tables, text_or_empty}
@@ -18,11 +18,12 @@ SlotIsBelow variables constants (Constant c) = c < constants
 abbrev pub AtomIsBelow : ℕ → ℕ → Atom → Type 0
 AtomIsBelow variables constants atom = AllByRecursion (SlotIsBelow variables constants) atom.args
 
--- premises have universal variables alone, disjuncts universal and existential ones, and all constants are among
--- the first ones
+-- premises have universal variables alone, disjuncts universal and existential ones, and all
+-- constants are among the first ones
 pub record IsWellFormed (constants : ℕ) (form : Form) : Type 0 where
   pub premises : AllByRecursion (AtomIsBelow form.universals constants) form.premises
-  pub disjuncts : AllByRecursion (AllByRecursion (AtomIsBelow (form.universals + form.existentials) constants)) form.disjuncts
+  pub disjuncts : AllByRecursion (AllByRecursion
+      (AtomIsBelow (form.universals + form.existentials) constants)) form.disjuncts
 
 -- a structure for symbols and constants that are numbers
 pub record Interpretation : Type 1 where

@@ -1,5 +1,4 @@
 pub mod Truth
-pub mod Nesting
-pub mod Forms
-pub mod Openings
 pub mod Problems
+pub mod Allowed
+pub mod Forms

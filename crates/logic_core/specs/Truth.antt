@@ -1,5 +1,5 @@
--- Structures, and when a formula is true in one. Source: first-order logic with equality as the TPTP uses it,
--- over structures with at least one element; each connective by its truth table.
+-- Structures, and when a formula is true in one. Source: first-order logic with equality as the
+-- TPTP uses it, over structures with at least one element; each connective by its truth table.
 use Rattle.std.specs.Prelude.{ℕ, ◌≡◌, ◌⊎◌, Bool, true, if◌then◌else◌, List, [], ◌∷◌, map}
 use Rattle.std.specs.Str.{bytes_eq}
 use Rattle.text_core.specs.Names.{Text}
@@ -9,8 +9,8 @@ use Rattle.logic_core.specs.declared.formula.Op.{Op}
 use Rattle.logic_core.specs.declared.formula.Op.TheVariants.{Implies, Implied, Iff, Xor, Nor, Nand}
 use Rattle.logic_core.specs.declared.formula.Formula.{Formula, True, False, Pred, Equal, Not', And', Or', Binary', ForAll', Exists', Row_of-Formula, end_of-Formula, more_of-Formula}
 
--- a structure: which whole numbers are its elements, of which elements a named predicate holds, and for which
--- element a constant stands
+-- a structure: which whole numbers are its elements, of which elements a named predicate holds, and
+-- for which element a constant stands
 pub record Structure : Type 1 where
   pub element : ℕ → Type 0
   pub holds : Text → List ℕ → Bool
@@ -42,7 +42,8 @@ module _ (s : Structure) where
   term_value env (Variable x) = value_in env x
   term_value env (Constant c) = s.place c
 
-  -- for every choice of elements for the variables in order; of two equal names the later choice counts
+  -- for every choice of elements for the variables in order; of two equal names the later choice
+  -- counts
   abbrev pub EveryValue : List Text → (Assignment → Type 0) → Assignment → Type 0
   EveryValue [] P env = P env
   EveryValue (x ∷ xs) P env = (a : ℕ) → s.element a → EveryValue xs P ((x, a) ∷ env)
@@ -62,7 +63,8 @@ module _ (s : Structure) where
     IsTrueIn (Not' _ (more_of-Formula g _)) env = IsTrueIn g env → ⊥
     IsTrueIn (And' _ members) env = EachTrueIn members env
     IsTrueIn (Or' _ members) env = SomeTrueIn members env
-    IsTrueIn (Binary' op _ (more_of-Formula g _) _ (more_of-Formula h _)) env = OpTrue op (IsTrueIn g env) (IsTrueIn h env)
+    IsTrueIn (Binary' op _ (more_of-Formula g _) _ (more_of-Formula h _)) env =
+        OpTrue op (IsTrueIn g env) (IsTrueIn h env)
     IsTrueIn (ForAll' xs _ (more_of-Formula g _)) env = EveryValue xs (IsTrueIn g) env
     IsTrueIn (Exists' xs _ (more_of-Formula g _)) env = SomeValue xs (IsTrueIn g) env
 

@@ -7,8 +7,8 @@ pub enum Term {
     Constant(Name),
 }
 
-/// A binary connective. `Implied` is implication read from right to left, `Xor` is non-equivalence, `Nor` and
-/// `Nand` are negated disjunction and conjunction. Source: the TPTP syntax, FOF.
+/// A binary connective. `Implied` is implication read from right to left, `Xor` is non-equivalence,
+/// `Nor` and `Nand` are negated disjunction and conjunction. Source: the TPTP syntax, FOF.
 #[derive(Clone, Copy, PartialEq, Eq, Debug)]
 pub enum Op {
     Implies,
@@ -19,9 +19,9 @@ pub enum Op {
     Nand,
 }
 
-/// A first-order formula. A predicate is its name with the number of its arguments; `And` and `Or` take their
-/// members in order; of two equal names in one quantifier's list the later one binds. Source: the TPTP syntax,
-/// FOF.
+/// A first-order formula. A predicate is its name with the number of its arguments; `And` and `Or`
+/// take their members in order; of two equal names in one quantifier's list the later one binds.
+/// Source: the TPTP syntax, FOF.
 #[derive(Debug, Drop)]
 pub enum Formula {
     True,

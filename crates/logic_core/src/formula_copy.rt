@@ -1,13 +1,13 @@
 ghost use Rattle.std.specs.Prelude.{◌≡◌, ◌≤◌, IfOk};
-ghost use Rattle.logic_core.specs.Nesting.{nesting};
+ghost use Rattle.logic_core.specs.Allowed.{nesting};
 
 use crate::formula::{Formula, Term};
 use std::alloc::Global;
 use text_core::{Boxed, List, MOST_LEVELS, Memory, Name};
 
 impl Formula {
-    /// A copy of a formula whose nesting is at most `MOST_LEVELS`; the copy equals the formula. `Memory` is want of
-    /// memory.
+    /// A copy of a formula whose nesting is at most `MOST_LEVELS`; the copy equals the formula.
+    /// `Memory` is want of memory.
     pub fn try_copy(&self, alloc: Global) -> Result<Formula, Memory>
         requires { nesting self.now ≤ MOST_LEVELS }
         ensures { IfOk result (λ copy. copy ≡ self.now) }

@@ -1,13 +1,11 @@
-//! What every other crate of Hogbygone speaks of: lists and names, formulas and problems as the TPTP writes
-//! them, coherent forms, and structures with what is true in them.
+//! What every other crate of Hogbygone speaks of: lists and names, formulas and problems as the
+//! TPTP writes them, coherent forms, and structures with what is true in them.
 #![tactic(auto)]
 
 mod form;
 mod formula;
 mod formula_copy;
 mod problem;
-#[cfg(test)]
-mod tests;
 mod world;
 
 pub use form::{Atom, Form, Slot};

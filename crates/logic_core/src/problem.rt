@@ -1,13 +1,14 @@
 ghost use Rattle.std.specs.Prelude.{◌≡◌, [], ◌∷◌, ◌++◌, ◌≤◌, ◌<◌, length, OnOk, OnErr};
 ghost use Rattle.std.specs.List.{AllByRecursion};
-ghost use Rattle.logic_core.specs.Problems.{FofMayStand, ItemMayStand};
+ghost use Rattle.logic_core.specs.Allowed.{FofIsAllowed, ItemIsAllowed};
 
 use crate::formula::Formula;
 use std::alloc::Global;
 use std::marker::Model;
 use text_core::{List, MOST_FORMULAS, Memory, Name};
 
-/// What a formula of a problem is there for. All but the last are premises. Source: the TPTP syntax.
+/// What a formula of a problem is there for. All but the last are premises. Source: the TPTP
+/// syntax.
 #[derive(Clone, Copy, PartialEq, Eq, Debug)]
 pub enum Role {
     Axiom,
@@ -29,8 +30,8 @@ pub struct Fof {
     pub formula: Formula,
 }
 
-/// An item of a problem's text: a formula, or the inclusion of a file, of all its formulas or of those with a
-/// name in the selection.
+/// An item of a problem's text: a formula, or the inclusion of a file, of all its formulas or of
+/// those with a name in the selection.
 #[derive(Debug, Drop)]
 pub enum Item {
     Fof(Fof),
@@ -47,8 +48,8 @@ pub struct Items {
     items: List<Item>,
 }
 
-/// A problem without inclusions: at most `MOST_FORMULAS` formulas, each closed and not nested too deep. Contracts see
-/// the list of formulas.
+/// A problem without inclusions: at most `MOST_FORMULAS` formulas, each closed and not nested too
+/// deep. Contracts see the list of formulas.
 #[derive(Debug, Drop)]
 pub struct Problem {
     formulas: List<Fof>,
@@ -65,11 +66,11 @@ impl Model for Items {
 
     ghost coded = { Prim.hlevel (codes, item.the_row.coded) };
 
-    ghost use Rattle.logic_core.specs.Problems.{ItemMayStand};
+    ghost use Rattle.logic_core.specs.Allowed.{ItemIsAllowed};
 
     ghost view = { λ it. it.items };
 
-    ghost invariant = { λ it. AllByRecursion ItemMayStand it.items };
+    ghost invariant = { λ it. AllByRecursion ItemIsAllowed it.items };
 }
 
 impl Model for Problem {
@@ -84,11 +85,12 @@ impl Model for Problem {
     ghost coded = { Prim.hlevel (codes, fof.the_row.coded) };
 
     ghost use Rattle.text_core.specs.declared.limits.TheConstants.{MOST_FORMULAS};
-    ghost use Rattle.logic_core.specs.Problems.{FofMayStand};
+    ghost use Rattle.logic_core.specs.Allowed.{FofIsAllowed};
 
     ghost view = { λ it. it.formulas };
 
-    ghost invariant = { λ it. (length it.formulas ≤ MOST_FORMULAS) × AllByRecursion FofMayStand it.formulas };
+    ghost invariant = { λ it. (length it.formulas ≤ MOST_FORMULAS)
+        × AllByRecursion FofIsAllowed it.formulas };
 }
 
 impl Items {
@@ -104,7 +106,7 @@ impl Items {
     /// The items in order.
     pub fn as_slice(&self) -> &[Item]
         ensures items { result.now ≡ self.now }
-        ensures may_stand { AllByRecursion ItemMayStand self.now }
+        ensures allowed { AllByRecursion ItemIsAllowed self.now }
     {
         self.items.as_slice()
     }
@@ -112,15 +114,15 @@ impl Items {
     /// The items in order, as a list of their own. It takes no memory.
     pub fn into_list(self) -> List<Item>
         ensures items { result ≡ self }
-        ensures may_stand { AllByRecursion ItemMayStand self }
+        ensures allowed { AllByRecursion ItemIsAllowed self }
     {
         self.items
     }
 
-    /// Appends an item that may stand in a problem's text. `Memory` is want of memory: the item is given up,
-    /// and the items are as before.
+    /// Appends an item that may be in a problem's text. `Memory` is want of memory: the item is
+    /// given up, and the items are as before.
     pub fn push(&mut self, item: Item) -> Result<(), Memory>
-        requires { ItemMayStand item }
+        requires { ItemIsAllowed item }
         ensures ok { OnOk result (self.new ≡ self.old ++ item ∷ []) }
         ensures err { OnErr result (self.new ≡ self.old) }
     {
@@ -142,15 +144,15 @@ impl Problem {
     pub fn as_slice(&self) -> &[Fof]
         ensures formulas { result.now ≡ self.now }
         ensures few { length self.now ≤ MOST_FORMULAS }
-        ensures may_stand { AllByRecursion FofMayStand self.now }
+        ensures allowed { AllByRecursion FofIsAllowed self.now }
     {
         self.formulas.as_slice()
     }
 
-    /// Appends a formula that may stand in a problem, to fewer than `MOST_FORMULAS`. `Memory` is want of memory: the
-    /// formula is given up, and the problem is as before.
+    /// Appends a formula that may be in a problem, to fewer than `MOST_FORMULAS`. `Memory` is want
+    /// of memory: the formula is given up, and the problem is as before.
     pub fn push(&mut self, fof: Fof) -> Result<(), Memory>
-        requires may_stand { FofMayStand fof }
+        requires allowed { FofIsAllowed fof }
         requires room { length self.old < MOST_FORMULAS }
         ensures ok { OnOk result (self.new ≡ self.old ++ fof ∷ []) }
         ensures err { OnErr result (self.new ≡ self.old) }

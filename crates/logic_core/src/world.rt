@@ -1,8 +1,8 @@
 ghost use Rattle.std.specs.Prelude.{ℕ, List, Bool, true, ◌≡◌, refl};
 
-/// Structures, by meanings alone: there is no call that runs. A list of whole numbers names one structure.
-/// Code that is generic in a `World` cannot look at it, so what it promises holds in every structure. Source:
-/// structures with at least one element, as in the TPTP's semantics.
+/// Structures, by meanings alone: there is no call that runs. A list of whole numbers names one
+/// structure. Code that is generic in a `World` cannot look at it, so what it promises holds in
+/// every structure. Source: structures with at least one element, as in the TPTP's semantics.
 pub trait World {
     /// Whether a whole number is an element of the structure that the list names.
     ghost element: { List ℕ → ℕ → Type 0 };

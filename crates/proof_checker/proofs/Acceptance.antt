@@ -7,6 +7,7 @@ use Rattle.std.specs.Str.{bytes_eq}
 use Rattle.std.proofs.Common.{ap, sym, ◌∙◌, inl, inr, subst, arith}
 use Rattle.std.proofs.lemmas.Option.{slice_get-map}
 use Rattle.text_core.specs.Names.{Text}
+use Rattle.text_core.proofs.Laws.{some_front, some_back, some_append, value_same, and_both, or_either}
 use Rattle.text_core.specs.Lists.{SomeOf, IsAmong}
 use Rattle.text_core.specs.Numbered.{Tables}
 use Rattle.logic_core.specs.declared.form.Atom.{Atom}
@@ -23,10 +24,10 @@ use Rattle.proof_checker.specs.declared.ground.GroundAtom.{GroundAtom}
 use Rattle.proof_checker.specs.declared.ground.GroundFormula.{GroundFormula}
 use Rattle.proof_checker.specs.declared.ground.CitedFact.{CitedFact}
 use Rattle.proof_checker.specs.Ground.{is_premise, axioms_of, goals_of, IsGroundProof}
-use Rattle.proof_checker.specs.Tasks.{tables_of, place_of, atom_of, form_of, goal_form, task_of}
+use Rattle.proof_checker.specs.Tasks.{tables_of, number_of, atom_of, form_of, goal_form, task_of}
 use Rattle.proof_checker.specs.Accepted.{StepsStand, IsAccepted, AcceptsWith, Refuses}
 use Rattle.proof_checker.specs.Checking.{atom_eq, first, cited_atom, shows, accepts}
-use Rattle.proof_checker.proofs.Numbered.{IsIn, atom_same, is_in, texts_told, both}
+use Rattle.proof_checker.proofs.Numbered.{IsIn, atom_same, is_in, texts_told}
 
 -- an atom without variables is its own instance
 slots_stay : (elements : List ℕ) (numbers : Text → ℕ) (xs : List Text) → map (slot_at elements) (map (λ c. Constant (numbers c)) xs) ≡ map (λ c. Constant (numbers c)) xs
@@ -34,36 +35,20 @@ slots_stay elements numbers [] = refl
 slots_stay elements numbers (x ∷ xs) = ap (λ zs. Constant (numbers x) ∷ zs) (slots_stay elements numbers xs)
 
 ground_stays : (elements : List ℕ) (tables : Tables) (a : GroundAtom) → atom_at elements (atom_of tables a) ≡ atom_of tables a
-ground_stays elements tables a = let args = slots_stay elements (λ c. place_of bytes_eq c tables.constants) a.args in
+ground_stays elements tables a = let args = slots_stay elements (λ c. number_of bytes_eq c tables.constants) a.args in
     λ i. record { positive = true; symbol = (atom_of tables a).symbol; args = args i }
-
--- what stands in a longer context stood before or is in its last line
-some_front : {X : Type 0} (P : X → Type 0) (xs ys : List X) → SomeOf P xs → SomeOf P (xs ++ ys)
-some_front P [] ys here = absurd here
-some_front P (x ∷ xs) ys (inl here) = inl here
-some_front P (x ∷ xs) ys (inr later) = inr (some_front P xs ys later)
-
-some_last : {X : Type 0} (P : X → Type 0) (xs : List X) (y : X) → P y → SomeOf P (xs ++ y ∷ [])
-some_last P [] y here = inl here
-some_last P (x ∷ xs) y here = inr (some_last P xs y here)
-
-some_split : {X : Type 0} (P : X → Type 0) (xs : List X) (y : X) → SomeOf P (xs ++ y ∷ []) → SomeOf P xs ⊎ P y
-some_split P [] y (inl here) = inr here
-some_split P [] y (inr later) = absurd later
-some_split P (x ∷ xs) y (inl here) = inl (inl here)
-some_split P (x ∷ xs) y (inr later) = elim (some_split P xs y later) [ inl before ↦ inl (inr before) | inr last ↦ inr last ]
 
 -- the context after an axiom was cited
 after_axiom : (tables : Tables) (a : GroundAtom) (context : Context) (args : List ℕ) (fact : Atom)
     → fact ≡ atom_of tables a → Stands (after_mp context (form_of tables a) args) fact
-after_axiom tables a context args fact same = some_last (LineHas fact) context.lines _ (inl (ground_stays _ tables a ∙ sym same))
+after_axiom tables a context args fact same = some_back (LineHas fact) context.lines (_ ∷ []) (inl (inl (ground_stays _ tables a ∙ sym same)))
 
 -- the test of two atoms tells whether they are one
 args_told : (xs ys : List Text) → pointwise bytes_eq xs ys ≡ true → xs ≡ ys
 args_told [] [] e = refl
 args_told [] (y ∷ ys) e = absurd (cc)
 args_told (x ∷ xs) [] e = absurd (cc)
-args_told (x ∷ xs) (y ∷ ys) e = let k = both (bytes_eq x y) (pointwise bytes_eq xs ys) e in
+args_told (x ∷ xs) (y ∷ ys) e = let k = and_both (bytes_eq x y) (pointwise bytes_eq xs ys) e in
     let head = texts_told.told x y k.0 in let tail = args_told xs ys k.1 in λ i. head i ∷ tail i
 
 args_itself : (xs : List Text) → pointwise bytes_eq xs xs ≡ true
@@ -71,7 +56,7 @@ args_itself [] = refl
 args_itself (x ∷ xs) = rw (texts_told.itself x, args_itself xs)
 
 atoms_told : (a b : GroundAtom) → atom_eq a b ≡ true → a ≡ b
-atoms_told a b e = let k = both (bytes_eq a.predicate b.predicate) (pointwise bytes_eq a.args b.args) e in
+atoms_told a b e = let k = and_both (bytes_eq a.predicate b.predicate) (pointwise bytes_eq a.args b.args) e in
     let predicate = texts_told.told a.predicate b.predicate k.0 in let args = args_told a.args b.args k.1 in
     λ i. record { predicate = predicate i; args = args i }
 
@@ -96,12 +81,9 @@ cited_by g gs cite a true true p n go e = record {
   axiom_is = rw p;
   name = texts_told.told g.name cite n;
   first = tt;
-  atom = some_same e;
+  atom = value_same e;
   among = inl refl;
 }
-  where
-    some_same : Some g.atom ≡ Some a → g.atom ≡ a
-    some_same e = cc
 cited_by g gs cite a true false p n go e = let k = go e in record {
   at = suc k.at;
   formula = k.formula;
@@ -134,12 +116,9 @@ found_by : (g : GroundFormula) (gs : List GroundFormula) (cite : Text) (at : ℕ
     → ((n : ℕ) → slice_get (axioms_of gs) n ≡ Some formula → AllByRecursion (λ (h : GroundFormula). h.name ≢ cite) (take n (axioms_of gs)) → cited_atom cite gs ≡ Some formula.atom)
     → cited_atom cite (g ∷ gs) ≡ Some formula.atom
 found_by g gs cite zero formula true p get name first go =
-    let same : g ≡ formula = some_same get in
+    let same : g ≡ formula = value_same get in
     let named : bytes_eq g.name cite ≡ true = subst (λ (x : Text). bytes_eq g.name x ≡ true) (ap (λ (h : GroundFormula). h.name) same ∙ name) (texts_told.itself g.name) in
     rw (p, named) (ap (λ (h : GroundFormula). Some h.atom) same)
-  where
-    some_same : Some g ≡ Some formula → g ≡ formula
-    some_same e = cc
 found_by g gs cite (suc n) formula true p get name first go = rw (p, other (bytes_eq g.name cite) refl) (go n get first.1)
   where
     other : (b : Bool) → bytes_eq g.name cite ≡ b → bytes_eq g.name cite ≡ false
@@ -155,10 +134,7 @@ found (g ∷ gs) cite at formula get name first = found_by g gs cite at formula 
 axiom_by : (g : GroundFormula) (gs : List GroundFormula) (at : ℕ) (formula : GroundFormula) (premise : Bool)
     → slice_get (if premise then g ∷ axioms_of gs else axioms_of gs) at ≡ Some formula
     → ((n : ℕ) → slice_get (axioms_of gs) n ≡ Some formula → IsAmong formula gs) → IsAmong formula (g ∷ gs)
-axiom_by g gs zero formula true get go = inl (some_same get)
-  where
-    some_same : Some g ≡ Some formula → g ≡ formula
-    some_same e = cc
+axiom_by g gs zero formula true get go = inl (value_same get)
 axiom_by g gs (suc n) formula true get go = inr (go n get)
 axiom_by g gs at formula false get go = inr (go at get)
 
@@ -180,10 +156,6 @@ pub goal_among : (problem : List GroundFormula) (goal : GroundAtom) (more : List
     → (f : GroundFormula) × IsAmong f problem × (f.atom ≡ goal)
 goal_among [] goal more e = absurd (cc)
 goal_among (g ∷ gs) goal more e = goal_by g gs goal more (is_premise g.role) e (goal_among gs goal more)
-
-either : (a b : Bool) → (a || b) ≡ true → (a ≡ true) ⊎ (b ≡ true)
-either true b e = inl refl
-either false b e = inr e
 
 shown : (o : Option GroundAtom) (a : GroundAtom) → shows o a ≡ true → (b : GroundAtom) × (o ≡ Some b) × (b ≡ a)
 shown None a e = absurd (cc)
@@ -207,23 +179,20 @@ module _ (problem : List GroundFormula) (goal : GroundAtom) (one_goal : goals_of
 
   closed_by : (context : Context) → Closes (task_of problem) (As 1 []) context → Stands context (atom_of (tables_of problem) goal)
   closed_by context answer =
-      let atoms : answer.atoms ≡ atom_of (tables_of problem) goal ∷ [] = sames (sym answer.disjunct_is ∙ ap (λ (f : Form). slice_get f.disjuncts 0) goal_is) in
+      let atoms : answer.atoms ≡ atom_of (tables_of problem) goal ∷ [] = value_same (sym answer.disjunct_is ∙ ap (λ (f : Form). slice_get f.disjuncts 0) goal_is) in
       let stand = (subst (AllByRecursion (λ a. Stands context (atom_at (parameters (task_of problem) ++ []) a))) atoms answer.stand).0 in
       subst (Stands context) (ground_stays (parameters (task_of problem) ++ []) (tables_of problem) goal) stand
-    where
-      sames : {x y : List Atom} → Some x ≡ Some y → x ≡ y
-      sames e = cc
 
   steps_accepted : (ss : List CitedFact) (stands : Bool) (context : Context) → (stands ≡ true → Stands context (atom_of (tables_of problem) goal))
       → accepts problem goal stands ss ≡ true
       → (mps : List Mp) × StepsStand (axioms_of problem) ss mps × StepsThen (task_of problem) mps (Closes (task_of problem) (As 1 [])) context × (length mps ≡ length ss)
   steps_accepted [] stands context given e = ([], refl, closes context (given e), refl)
   steps_accepted (s ∷ ss) stands context given e =
-      let k = both (shows (cited_atom s.cite problem) s.atom) (accepts problem goal (stands || atom_eq s.atom goal) ss) e in
+      let k = and_both (shows (cited_atom s.cite problem) s.atom) (accepts problem goal (stands || atom_eq s.atom goal) ss) e in
       let b = shown (cited_atom s.cite problem) s.atom k.0 in
       let f = cited problem s.cite b.0 b.1 in
       let next = after_mp context (form_of (tables_of problem) f.formula.atom) [] in
-      let r = steps_accepted ss (stands || atom_eq s.atom goal) next (λ so. elim (either stands (atom_eq s.atom goal) so) [
+      let r = steps_accepted ss (stands || atom_eq s.atom goal) next (λ so. elim (or_either stands (atom_eq s.atom goal) so) [
         | inl before ↦ some_front (LineHas (atom_of (tables_of problem) goal)) context.lines _ (given before)
         | inr now ↦ after_axiom (tables_of problem) f.formula.atom context [] (atom_of (tables_of problem) goal)
             (ap (atom_of (tables_of problem)) (sym (f.atom ∙ b.2 ∙ atoms_told s.atom goal now)))
@@ -247,18 +216,17 @@ module _ (problem : List GroundFormula) (goal : GroundAtom) (one_goal : goals_of
       )
 
   same_form : (at : ℕ) (f g : Form) → slice_get (task_of problem).forms at ≡ Some f → slice_get (task_of problem).forms at ≡ Some g → f ≡ g
-  same_form at f g one two = some_same (sym one ∙ two)
-    where
-      some_same : Some f ≡ Some g → f ≡ g
-      some_same e = cc
+  same_form at f g one two = value_same (sym one ∙ two)
 
   -- the goal stands after an axiom was cited: it stood before, or it is that axiom
   stood : (context : Context) (args : List ℕ) (g : GroundFormula) → IsAmong g problem
       → Stands (after_mp context (form_of (tables_of problem) g.atom) args) (atom_of (tables_of problem) goal)
       → Stands context (atom_of (tables_of problem) goal) ⊎ (g.atom ≡ goal)
-  stood context args g among here = elim (some_split (LineHas (atom_of (tables_of problem) goal)) context.lines _ here) [
+  stood context args g among here = elim (some_append (LineHas (atom_of (tables_of problem) goal)) context.lines _ here) [
     | inl before ↦ inl before
-    | inr last ↦ elim last [ inl same ↦ inr (names same) | inr none ↦ absurd none ]
+    | inr (inl (inl same)) ↦ inr (names same)
+    | inr (inl (inr none)) ↦ absurd none
+    | inr (inr none) ↦ absurd none
   ]
     where
       of_goal : IsIn problem goal

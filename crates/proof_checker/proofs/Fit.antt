@@ -12,7 +12,7 @@ use Rattle.proof_checker.specs.declared.ground.GroundAtom.{GroundAtom}
 use Rattle.proof_checker.specs.declared.ground.GroundFormula.{GroundFormula}
 use Rattle.proof_checker.specs.Ground.{formula_of, fof_of, goals_of, is_premise, IsGroundProblem}
 use Rattle.proof_checker.specs.Making.{is_fit}
-use Rattle.proof_checker.proofs.Numbered.{both, number_told}
+use Rattle.text_core.proofs.Laws.{and_both, number_same}
 
 le_told : (m n : ℕ) → nat_le m n ≡ true → m ≤ n
 le_told m n e = grind arith
@@ -22,7 +22,7 @@ le_from m n e = grind arith
 
 narrow_told : (gs : List GroundFormula) → list_all (λ (g : GroundFormula). nat_le (length g.atom.args) 32) gs ≡ true → AllByRecursion (λ (g : GroundFormula). length g.atom.args ≤ 32) gs
 narrow_told [] e = tt
-narrow_told (g ∷ gs) e = let k = both (nat_le (length g.atom.args) 32) (list_all (λ (h : GroundFormula). nat_le (length h.atom.args) 32) gs) e in
+narrow_told (g ∷ gs) e = let k = and_both (nat_le (length g.atom.args) 32) (list_all (λ (h : GroundFormula). nat_le (length h.atom.args) 32) gs) e in
     (le_told (length g.atom.args) 32 k.0, narrow_told gs k.1)
 
 narrow_from : (gs : List GroundFormula) → AllByRecursion (λ (g : GroundFormula). length g.atom.args ≤ 32) gs → list_all (λ (g : GroundFormula). nat_le (length g.atom.args) 32) gs ≡ true
@@ -76,8 +76,8 @@ module _ (problem : List Fof) (gs : List GroundFormula) (are : problem ≡ map f
 
   pub fit_is : is_fit gs ≡ true → IsGroundProblem problem gs
   fit_is fit =
-      let k = both (list_all (λ (g : GroundFormula). nat_le (length g.atom.args) 32) gs) (length (goals_of gs) == 1) fit in
-      record { are = are; narrow = narrow_told gs k.0; one_goal = number_told (length (goals_of gs)) 1 k.1 }
+      let k = and_both (list_all (λ (g : GroundFormula). nat_le (length g.atom.args) 32) gs) (length (goals_of gs) == 1) fit in
+      record { are = are; narrow = narrow_told gs k.0; one_goal = number_same (length (goals_of gs)) 1 k.1 }
 
   pub is_unfit : is_fit gs ≡ false → (hs : List GroundFormula) → IsGroundProblem problem hs → ⊥
   is_unfit unfit hs is =

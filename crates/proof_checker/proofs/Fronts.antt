@@ -2,6 +2,7 @@
 use Rattle.std.specs.Prelude.{◌≡◌, if◌then◌else◌, Bool, true, false, List, [], ◌∷◌, ◌++◌, Some, None, refl, codes}
 use Rattle.std.specs.Str.{bytes_eq}
 use Rattle.std.proofs.Common.{ap, append_assoc, ◌∙◌}
+use Rattle.text_core.proofs.Laws.{value_same}
 use Rattle.text_core.specs.Names.{Text, is_lower, is_word_from}
 use Rattle.proof_checker.specs.Reading.{Read, with_front, args_from, word_from, after}
 
@@ -15,10 +16,7 @@ with_front-append xs ys (Some read) = ap (λ zs. Some (zs, read.1)) (append_asso
 
 -- what a choice by a test tells
 pub chosen : {X : Type 0} (b : Bool) (x y : X) → (if b then Some x else None) ≡ Some y → (b ≡ true) × (x ≡ y)
-chosen true x y e = (refl, some_same e)
-  where
-    some_same : Some x ≡ Some y → x ≡ y
-    some_same e = cc
+chosen true x y e = (refl, value_same e)
 chosen false x y e = absurd (cc)
 
 pub passed_over : {X : Type 0} (b : Bool) (x : X) → (if b then Some x else None) ≡ None → b ≡ false

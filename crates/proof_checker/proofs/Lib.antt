@@ -8,6 +8,5 @@ pub mod SoundSteps
 pub mod Numbered
 pub mod Acceptance
 pub mod Truth
-pub mod Texts
 pub mod Read
 pub mod Told

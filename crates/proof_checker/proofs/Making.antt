@@ -8,7 +8,7 @@ use Rattle.logic_core.specs.declared.formula.Term.TheVariants.{Variable, Constan
 use Rattle.proof_checker.specs.declared.problem.NotGround.{NotGround}
 use Rattle.proof_checker.specs.declared.problem.NotGround.TheVariants.{NotBuilt, Memory}
 use Rattle.proof_checker.specs.Making.{IsMadeFrom}
-use Rattle.proof_checker.proofs.Texts.{take_next}
+use Rattle.text_core.proofs.Laws.{take_next}
 
 -- one more is made
 pub made_next : {X Y : Type 0} (make : X → Y) (made : List Y) (i : ℕ) (y : Y) (xs : List X) (x : X) → slice_get made i ≡ Some y

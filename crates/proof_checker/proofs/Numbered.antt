@@ -5,13 +5,14 @@ use Rattle.std.specs.Str.{bytes_eq}
 use Rattle.std.proofs.Common.{ap, sym, ◌∙◌, inl, inr, subst, arith}
 use Rattle.std.proofs.lemmas.Slice.Eq.{bytes_eq-Decides}
 use Rattle.text_core.specs.Names.{Text}
+use Rattle.text_core.proofs.Laws.{among_front, among_back, value_same, and_both, number_same}
 use Rattle.text_core.specs.Lists.{IsAmong}
 use Rattle.text_core.specs.Numbered.{Symbol, Tables}
 use Rattle.logic_core.specs.declared.form.Atom.{Atom}
 use Rattle.logic_core.specs.declared.form.Slot.TheVariants.{Constant}
 use Rattle.proof_checker.specs.declared.ground.GroundAtom.{GroundAtom}
 use Rattle.proof_checker.specs.declared.ground.GroundFormula.{GroundFormula}
-use Rattle.proof_checker.specs.Tasks.{symbol_eq, others, once, place_of, symbol_of, all_args, tables_of, atom_of}
+use Rattle.proof_checker.specs.Tasks.{symbol_eq, others, once, number_of, symbol_of, all_args, tables_of, atom_of}
 
 -- a test that tells whether two values are one
 pub record TellsSame {X : Type 0} (same : X → X → Bool) : Type 0 where
@@ -21,21 +22,13 @@ pub record TellsSame {X : Type 0} (same : X → X → Bool) : Type 0 where
 pub texts_told : TellsSame bytes_eq
 texts_told = record { told = λ x y. (bytes_eq-Decides x y).0; itself = λ x. (bytes_eq-Decides x x).1 refl }
 
-pub both : (a b : Bool) → (a && b) ≡ true → (a ≡ true) × (b ≡ true)
-both true true e = (refl, refl)
-both true false e = absurd (cc)
-both false b e = absurd (cc)
-
-pub number_told : (m n : ℕ) → (m == n) ≡ true → m ≡ n
-number_told m n e = grind arith
-
 number_itself : (n : ℕ) → (n == n) ≡ true
 number_itself n = grind arith
 
 pub symbols_told : TellsSame symbol_eq
 symbols_told = record {
-  told = λ x y e. let k = both (bytes_eq x.name y.name) (x.arity == y.arity) e in
-      let name = texts_told.told x.name y.name k.0 in let arity = number_told x.arity y.arity k.1 in
+  told = λ x y e. let k = and_both (bytes_eq x.name y.name) (x.arity == y.arity) e in
+      let name = texts_told.told x.name y.name k.0 in let arity = number_same x.arity y.arity k.1 in
       λ i. record { name = name i; arity = arity i };
   itself = λ x. rw (texts_told.itself x.name, number_itself x.arity);
 }
@@ -63,32 +56,23 @@ module _ {X : Type 0} (same : X → X → Bool) (tells : TellsSame same) where
   placed_by x y ys n false e go (inl here) = let yes : same x y ≡ true = ap (same x) here ∙ tells.itself x in absurd (cc)
   placed_by x y ys n false e go (inr later) = go later
 
-  pub placed : (x : X) (ys : List X) → IsAmong x ys → slice_get ys (place_of same x ys) ≡ Some x
+  pub placed : (x : X) (ys : List X) → IsAmong x ys → slice_get ys (number_of same x ys) ≡ Some x
   placed x [] here = absurd here
-  placed x (y ∷ ys) here = placed_by x y ys (place_of same x ys) (same x y) refl (placed x ys) here
+  placed x (y ∷ ys) here = placed_by x y ys (number_of same x ys) (same x y) refl (placed x ys) here
 
   -- a member is found at its number
-  pub numbered : (x : X) (xs : List X) → IsAmong x xs → slice_get (once same xs) (place_of same x (once same xs)) ≡ Some x
+  pub numbered : (x : X) (xs : List X) → IsAmong x xs → slice_get (once same xs) (number_of same x (once same xs)) ≡ Some x
   numbered x xs here = placed x (once same xs) (kept x xs here)
 
 -- the atom of a formula of the problem, by its names
 pub record IsIn (problem : List GroundFormula) (a : GroundAtom) : Type 0 where
-  pub symbol : slice_get (tables_of problem).symbols (place_of symbol_eq (symbol_of a) (tables_of problem).symbols) ≡ Some (symbol_of a)
-  pub constants : AllByRecursion (λ c. slice_get (tables_of problem).constants (place_of bytes_eq c (tables_of problem).constants) ≡ Some c) a.args
+  pub symbol : slice_get (tables_of problem).symbols (number_of symbol_eq (symbol_of a) (tables_of problem).symbols) ≡ Some (symbol_of a)
+  pub constants : AllByRecursion (λ c. slice_get (tables_of problem).constants (number_of bytes_eq c (tables_of problem).constants) ≡ Some c) a.args
 
 among_map : {X Y : Type 0} (f : X → Y) (x : X) (xs : List X) → IsAmong x xs → IsAmong (f x) (map f xs)
 among_map f x [] here = absurd here
 among_map f x (y ∷ ys) (inl here) = inl (ap f here)
 among_map f x (y ∷ ys) (inr later) = inr (among_map f x ys later)
-
-among_front : {X : Type 0} (x : X) (xs ys : List X) → IsAmong x xs → IsAmong x (xs ++ ys)
-among_front x [] ys here = absurd here
-among_front x (z ∷ zs) ys (inl here) = inl here
-among_front x (z ∷ zs) ys (inr later) = inr (among_front x zs ys later)
-
-among_back : {X : Type 0} (x : X) (xs ys : List X) → IsAmong x ys → IsAmong x (xs ++ ys)
-among_back x [] ys here = here
-among_back x (z ∷ zs) ys here = inr (among_back x zs ys here)
 
 args_among : (c : Text) (g : GroundFormula) (problem : List GroundFormula) → IsAmong g problem → IsAmong c g.atom.args → IsAmong c (all_args problem)
 args_among c g [] here arg = absurd here
@@ -102,29 +86,26 @@ every_arg (x ∷ xs) P go = (go x (inl refl), every_arg xs P (λ c here. go c (i
 pub is_in : (problem : List GroundFormula) (g : GroundFormula) → IsAmong g problem → IsIn problem g.atom
 is_in problem g here = record {
   symbol = numbered symbol_eq symbols_told (symbol_of g.atom) (map (λ (f : GroundFormula). symbol_of f.atom) problem) (among_map (λ (f : GroundFormula). symbol_of f.atom) g problem here);
-  constants = every_arg g.atom.args (λ c. slice_get (tables_of problem).constants (place_of bytes_eq c (tables_of problem).constants) ≡ Some c)
+  constants = every_arg g.atom.args (λ c. slice_get (tables_of problem).constants (number_of bytes_eq c (tables_of problem).constants) ≡ Some c)
       (λ c arg. numbered bytes_eq texts_told c (all_args problem) (args_among c g problem here arg));
 }
 
 slot_same : (m n : ℕ) → Constant m ≡ Constant n → m ≡ n
 slot_same m n e = cc
 
-some_same : {X : Type 0} {x y : X} → Some x ≡ Some y → x ≡ y
-some_same e = cc
-
 -- constants with the same numbers have the same names
 args_same : (tables : Tables) (xs ys : List Text)
-    → AllByRecursion (λ c. slice_get tables.constants (place_of bytes_eq c tables.constants) ≡ Some c) xs
-    → AllByRecursion (λ c. slice_get tables.constants (place_of bytes_eq c tables.constants) ≡ Some c) ys
-    → map (λ c. Constant (place_of bytes_eq c tables.constants)) xs ≡ map (λ c. Constant (place_of bytes_eq c tables.constants)) ys → xs ≡ ys
+    → AllByRecursion (λ c. slice_get tables.constants (number_of bytes_eq c tables.constants) ≡ Some c) xs
+    → AllByRecursion (λ c. slice_get tables.constants (number_of bytes_eq c tables.constants) ≡ Some c) ys
+    → map (λ c. Constant (number_of bytes_eq c tables.constants)) xs ≡ map (λ c. Constant (number_of bytes_eq c tables.constants)) ys → xs ≡ ys
 args_same tables [] [] one two e = refl
 args_same tables [] (y ∷ ys) one two e = absurd (cc)
 args_same tables (x ∷ xs) [] one two e = absurd (cc)
 args_same tables (x ∷ xs) (y ∷ ys) one two e =
-    let heads : Constant (place_of bytes_eq x tables.constants) ≡ Constant (place_of bytes_eq y tables.constants) = cc in
-    let tails : map (λ c. Constant (place_of bytes_eq c tables.constants)) xs ≡ map (λ c. Constant (place_of bytes_eq c tables.constants)) ys = cc in
-    let numbers = slot_same (place_of bytes_eq x tables.constants) (place_of bytes_eq y tables.constants) heads in
-    let names : x ≡ y = some_same (sym one.0 ∙ ap (slice_get tables.constants) numbers ∙ two.0) in
+    let heads : Constant (number_of bytes_eq x tables.constants) ≡ Constant (number_of bytes_eq y tables.constants) = cc in
+    let tails : map (λ c. Constant (number_of bytes_eq c tables.constants)) xs ≡ map (λ c. Constant (number_of bytes_eq c tables.constants)) ys = cc in
+    let numbers = slot_same (number_of bytes_eq x tables.constants) (number_of bytes_eq y tables.constants) heads in
+    let names : x ≡ y = value_same (sym one.0 ∙ ap (slice_get tables.constants) numbers ∙ two.0) in
     let rest = args_same tables xs ys one.1 two.1 tails in
     λ i. names i ∷ rest i
 
@@ -132,9 +113,9 @@ args_same tables (x ∷ xs) (y ∷ ys) one two e =
 pub atom_same : (problem : List GroundFormula) (a b : GroundAtom) → IsIn problem a → IsIn problem b → atom_of (tables_of problem) a ≡ atom_of (tables_of problem) b → a ≡ b
 atom_same problem a b one two e =
     let tables = tables_of problem in
-    let numbers : suc (place_of symbol_eq (symbol_of a) tables.symbols) ≡ suc (place_of symbol_eq (symbol_of b) tables.symbols) = ap (λ (q : Atom). q.symbol) e in
-    let places : place_of symbol_eq (symbol_of a) tables.symbols ≡ place_of symbol_eq (symbol_of b) tables.symbols = omega arith in
-    let symbols : symbol_of a ≡ symbol_of b = some_same (sym one.symbol ∙ ap (slice_get tables.symbols) places ∙ two.symbol) in
+    let numbers : suc (number_of symbol_eq (symbol_of a) tables.symbols) ≡ suc (number_of symbol_eq (symbol_of b) tables.symbols) = ap (λ (q : Atom). q.symbol) e in
+    let places : number_of symbol_eq (symbol_of a) tables.symbols ≡ number_of symbol_eq (symbol_of b) tables.symbols = omega arith in
+    let symbols : symbol_of a ≡ symbol_of b = value_same (sym one.symbol ∙ ap (slice_get tables.symbols) places ∙ two.symbol) in
     let predicate : a.predicate ≡ b.predicate = ap (λ (q : Symbol). q.name) symbols in
     let args : a.args ≡ b.args = args_same tables a.args b.args one.constants two.constants (ap (λ (q : Atom). q.args) e) in
     λ i. record { predicate = predicate i; args = args i }

@@ -1,41 +1,42 @@
 -- Whole proofs: what is read is the one value that the texts spell.
 use Rattle.std.specs.Prelude.{◌≡◌, List, [], Option, Some, Result, Ok, Err, IfOk, IfErr, MatchResult, refl}
-use Rattle.std.proofs.Common.{ap, sym, ◌∙◌}
+use Rattle.std.proofs.Common.{ap, sym, ◌∙◌, arith}
+use Rattle.text_core.proofs.Laws.{value_same}
 use Rattle.text_core.specs.Names.{Text}
 use Rattle.proof_checker.specs.declared.ground.CitedFact.{CitedFact}
+use Rattle.proof_checker.specs.declared.reader.TheConstants.{MOST_STEPS}
 use Rattle.proof_checker.specs.Ground.{IsProofOf}
 use Rattle.proof_checker.specs.declared.words.NotRead.{NotRead}
 use Rattle.proof_checker.specs.declared.words.NotRead.TheVariants.{Lexical, NotBuilt, Memory}
 use Rattle.proof_checker.specs.Reading.{Gives, IsMisfit, proof_from}
 use Rattle.proof_checker.proofs.Complete.{proof_complete}
-use Rattle.proof_checker.proofs.Sound.{some_same}
 use Rattle.proof_checker.proofs.SoundSteps.{proof_sound}
 
 same_list : {X : Type 0} (xs ys : List X) → ◌≡◌ {A = Option (List X × List Text)} (Some (xs, [])) (Some (ys, [])) → xs ≡ ys
-same_list {X} xs ys e = ap (λ (q : List X × List Text). q.0) (some_same e)
+same_list {X} xs ys e = ap (λ (q : List X × List Text). q.0) (value_same e)
 
-proof_found : (texts : List Text) (steps : List CitedFact) → IsProofOf texts steps → proof_from 65535 texts ≡ Some (steps, [])
-proof_found texts steps is = ap (proof_from 65535) is.spelled ∙ proof_complete 65535 steps is.words is.few
+proof_found : (texts : List Text) (steps : List CitedFact) → IsProofOf texts steps → proof_from MOST_STEPS texts ≡ Some (steps, [])
+proof_found texts steps is = ap (proof_from MOST_STEPS) is.spelled ∙ proof_complete MOST_STEPS steps is.words (let few = is.few in omega arith)
 
-proof_is : (texts : List Text) (ss : List CitedFact) → proof_from 65535 texts ≡ Some (ss, []) → IsProofOf texts ss
-proof_is texts ss e = let k = proof_sound 65535 texts ss e in record { spelled = k.spelled; words = k.cited; few = k.few }
+proof_is : (texts : List Text) (ss : List CitedFact) → proof_from MOST_STEPS texts ≡ Some (ss, []) → IsProofOf texts ss
+proof_is texts ss e = let k = proof_sound MOST_STEPS texts ss e in record { spelled = k.spelled; words = k.cited; few = (let few = k.few in omega arith) }
 
 -- texts spell one proof
 pub one_proof : (texts : List Text) (ss ts : List CitedFact) → IsProofOf texts ss → IsProofOf texts ts → ss ≡ ts
 one_proof texts ss ts first second = same_list ss ts (sym (proof_found texts ss first) ∙ proof_found texts ts second)
 
-pub steps_read : (texts : List Text) (result : Result (List CitedFact) NotRead) → Gives (λ ss. (ss, [])) result (proof_from 65535 texts) → IfOk result (IsProofOf texts)
+pub steps_read : (texts : List Text) (result : Result (List CitedFact) NotRead) → Gives (λ ss. (ss, [])) result (proof_from MOST_STEPS texts) → IfOk result (IsProofOf texts)
 steps_read texts (Ok ss) given = proof_is texts ss given
 steps_read texts (Err fault) given = tt
 
-pub steps_refused : (texts : List Text) (result : Result (List CitedFact) NotRead) → Gives (λ ss. (ss, [])) result (proof_from 65535 texts)
+pub steps_refused : (texts : List Text) (result : Result (List CitedFact) NotRead) → Gives (λ ss. (ss, [])) result (proof_from MOST_STEPS texts)
     → IfErr result (IsMisfit (IsProofOf texts))
 steps_refused texts (Ok ss) given = tt
 steps_refused texts (Err (Lexical refusal)) given = given
 steps_refused texts (Err NotBuilt) given = λ steps is. let found = proof_found texts steps is in absurd (cc)
 steps_refused texts (Err Memory) given = tt
 
-pub steps_found : (texts : List Text) (result : Result (List CitedFact) NotRead) → Gives (λ ss. (ss, [])) result (proof_from 65535 texts)
+pub steps_found : (texts : List Text) (result : Result (List CitedFact) NotRead) → Gives (λ ss. (ss, [])) result (proof_from MOST_STEPS texts)
     → (steps : List CitedFact) → IsProofOf texts steps → MatchResult result (λ ss. ss ≡ steps) (λ fault. fault ≡ Memory)
 steps_found texts (Ok ss) given steps is = same_list ss steps (sym given ∙ proof_found texts steps is)
 steps_found texts (Err (Lexical refusal)) given steps is = absurd given

@@ -5,6 +5,7 @@ use Rattle.std.specs.Option.{option_and_then}
 use Rattle.std.specs.Str.{bytes_eq}
 use Rattle.std.proofs.Common.{ap, sym, append_assoc, ◌∙◌, subst}
 use Rattle.std.proofs.lemmas.Slice.Eq.{bytes_eq-Decides}
+use Rattle.text_core.proofs.Laws.{value_same}
 use Rattle.text_core.specs.Names.{Text, is_lower, is_word_from}
 use Rattle.proof_checker.specs.declared.ground.GroundAtom.{GroundAtom}
 use Rattle.proof_checker.specs.Ground.{IsWord, HasWords, listed, args_texts, atom_texts}
@@ -15,9 +16,6 @@ use Rattle.proof_checker.proofs.Fronts.{chosen}
 pub bound : {X Y : Type 0} (f : X → Option Y) (o : Option X) (y : Y) → option_and_then f o ≡ Some y → (x : X) × (o ≡ Some x) × (f x ≡ Some y)
 bound f None y e = absurd (cc)
 bound f (Some x) y e = (x, refl, e)
-
-pub some_same : {X : Type 0} {x y : X} → Some x ≡ Some y → x ≡ y
-some_same e = cc
 
 pub after_is : (wanted : Text) (ts rest : List Text) → after wanted ts ≡ Some rest → ts ≡ wanted ∷ rest
 after_is wanted [] rest e = absurd (cc)
@@ -41,7 +39,7 @@ args_more : (t : Text) (ts : List Text) (more : Read (List Text)) (read : List T
     → ((r : List Text × List Text) → more ≡ Some r → Args ts r) → with_front (t ∷ []) more ≡ Some read → Args (t ∷ codes "," ∷ ts) read
 args_more t ts None read w go e = absurd (cc)
 args_more t ts (Some r) read w go e = let a = go r refl in
-    let same : (t ∷ r.0, r.1) ≡ read = some_same e in
+    let same : (t ∷ r.0, r.1) ≡ read = value_same e in
     subst (Args (t ∷ codes "," ∷ ts)) same (record { x = t; xs = a.x ∷ a.xs; are = ap (λ zs. t ∷ zs) a.are; spelled = ap (λ zs. t ∷ codes "," ∷ zs) a.spelled; words = (w, a.words) })
 
 args_at : (word comma closed : Bool) (t mark : Text) (ts : List Text) (more : Read (List Text)) (read : List Text × List Text)
@@ -50,7 +48,7 @@ args_at : (word comma closed : Bool) (t mark : Text) (ts : List Text) (more : Re
 args_at true true closed t mark ts more read w c d go e = let same : mark ≡ codes "," = (bytes_eq-Decides mark (codes ",")).0 c in
     subst (λ (m : Text). Args (t ∷ m ∷ ts) read) (sym same) (args_more t ts more read w go e)
 args_at true false true t mark ts more read w c d go e = let same : mark ≡ codes ")" = (bytes_eq-Decides mark (codes ")")).0 d in
-    let all : (t ∷ [], ts) ≡ read = some_same e in
+    let all : (t ∷ [], ts) ≡ read = value_same e in
     subst (λ (m : Text). Args (t ∷ m ∷ ts) read) (sym same) (subst (Args (t ∷ codes ")" ∷ ts)) all (record { x = t; xs = []; are = refl; spelled = refl; words = (w, tt) }))
 args_at true false false t mark ts more read w c d go e = absurd (cc)
 args_at false comma closed t mark ts more read w c d go e = absurd (cc)
@@ -68,7 +66,7 @@ with_args : (p : Text) (inner : List Text) (args : Read (List Text)) (read : Gro
     → ((r : List Text × List Text) → args ≡ Some r → Args inner r) → atom_with_args p args ≡ Some read → AtomRead (p ∷ codes "(" ∷ inner) read
 with_args p inner None read w go e = absurd (cc)
 with_args p inner (Some r) read w go e = let a = go r refl in
-    let same : (record { predicate = p; args = r.0 }, r.1) ≡ read = some_same e in
+    let same : (record { predicate = p; args = r.0 }, r.1) ≡ read = value_same e in
     let spelt : inner ≡ (listed (a.x ∷ a.xs) ++ codes ")" ∷ []) ++ r.1 = a.spelled ∙ sym (append_assoc (listed (a.x ∷ a.xs)) (codes ")" ∷ []) r.1) in
     subst (AtomRead (p ∷ codes "(" ∷ inner)) same (record {
       spelled = ap (λ zs. p ∷ codes "(" ∷ zs) spelt ∙ ap (λ zs. (p ∷ args_texts zs) ++ r.1) (sym a.are);
@@ -77,7 +75,7 @@ with_args p inner (Some r) read w go e = let a = go r refl in
 
 behind : (p : Text) (ts : List Text) (opened : Option (List Text)) (read : GroundAtom × List Text) → IsWord p → after (codes "(") ts ≡ opened
     → atom_behind p ts opened ≡ Some read → AtomRead (p ∷ ts) read
-behind p ts None read w o e = let same : (record { predicate = p; args = [] }, ts) ≡ read = some_same e in
+behind p ts None read w o e = let same : (record { predicate = p; args = [] }, ts) ≡ read = value_same e in
     subst (AtomRead (p ∷ ts)) same (record { spelled = refl; words = record { predicate = w; args = tt } })
 behind p ts (Some inner) read w o e = let same = after_is (codes "(") ts inner o in
     subst (λ (us : List Text). AtomRead (p ∷ us) read) (sym same) (with_args p inner (args_from inner) read w (args_sound inner) e)
@@ -90,5 +88,5 @@ atom_sound ts read e = let k = bound (λ (r : Text × List Text). atom_behind r.
 
 pub front_is : {X : Type 0} (x : X) (more : Read (List X)) (xs : List X) → with_front (x ∷ []) more ≡ Some (xs, []) → (ys : List X) × (more ≡ Some (ys, [])) × (x ∷ ys ≡ xs)
 front_is x None xs e = absurd (cc)
-front_is {X} x (Some r) xs e = let same : (x ∷ r.0, r.1) ≡ (xs, []) = some_same e in
+front_is {X} x (Some r) xs e = let same : (x ∷ r.0, r.1) ≡ (xs, []) = value_same e in
     (r.0, ap (λ us. Some (r.0, us)) (ap (λ (q : List X × List Text). q.1) same), ap (λ (q : List X × List Text). q.0) same)

@@ -3,12 +3,13 @@ use Rattle.std.specs.Prelude.{◌≡◌, ◌≤◌, ℕ, zero, suc, List, [], �
 use Rattle.std.specs.List.{AllByRecursion}
 use Rattle.std.specs.Option.{option_and_then}
 use Rattle.std.proofs.Common.{ap, sym, append_assoc, ◌∙◌, arith, subst}
+use Rattle.text_core.proofs.Laws.{value_same}
 use Rattle.text_core.specs.Names.{Text}
 use Rattle.proof_checker.specs.declared.ground.GroundAtom.{GroundAtom}
 use Rattle.proof_checker.specs.declared.ground.CitedFact.{CitedFact}
 use Rattle.proof_checker.specs.Ground.{IsWord, IsCited, atom_texts, step_texts, steps_texts, proof_texts}
 use Rattle.proof_checker.specs.Reading.{with_front, after, word_from, atom_from, empty_list, end_from, closing, closed, step_end, step_behind, step_from, step_or_end, steps_from, proof_from}
-use Rattle.proof_checker.proofs.Sound.{bound, some_same, after_is, word_is, AtomRead, atom_sound, front_is}
+use Rattle.proof_checker.proofs.Sound.{bound, after_is, word_is, AtomRead, atom_sound, front_is}
 
 list_is : (ts rest : List Text) → empty_list ts ≡ Some rest → ts ≡ codes "[" ∷ codes "]" ∷ rest
 list_is ts rest e = let k = bound (after (codes "]")) (after (codes "[") ts) rest e in
@@ -25,7 +26,7 @@ step_ends cite ts a read w at e =
     let k = bound (λ us. Some (record { cite = cite; atom = a.0 }, us)) (after (codes ".") a.1) read e in
     let spelt : ts ≡ (atom_texts a.0 ++ codes "." ∷ []) ++ k.0 =
     at.spelled ∙ ap (λ zs. atom_texts a.0 ++ zs) (after_is (codes ".") a.1 k.0 k.1) ∙ sym (append_assoc (atom_texts a.0) (codes "." ∷ []) k.0) in
-    subst (StepRead (cite ∷ codes "[" ∷ codes "]" ∷ codes "new" ∷ codes "[" ∷ codes "]" ∷ codes "gives" ∷ ts)) (some_same k.2) (record {
+    subst (StepRead (cite ∷ codes "[" ∷ codes "]" ∷ codes "new" ∷ codes "[" ∷ codes "]" ∷ codes "gives" ∷ ts)) (value_same k.2) (record {
       spelled = ap (λ zs. codes "mp" ∷ cite ∷ codes "[" ∷ codes "]" ∷ codes "new" ∷ codes "[" ∷ codes "]" ∷ codes "gives" ∷ zs) spelt;
       cited = record { cite = w; atom = at.words };
     })
@@ -55,7 +56,7 @@ pub record StepsRead (most : ℕ) (ts : List Text) (ss : List CitedFact) : Type 
   pub few : length ss ≤ most
 
 closing_is : (ts : List Text) (ss : List CitedFact) → closing ts ≡ Some (ss, []) → (ts ≡ []) × (ss ≡ [])
-closing_is [] ss e = (refl, sym (ap (λ (q : List CitedFact × List Text). q.0) (some_same e)))
+closing_is [] ss e = (refl, sym (ap (λ (q : List CitedFact × List Text). q.0) (value_same e)))
 closing_is (t ∷ ts) ss e = absurd (cc)
 
 closed_is : (most : ℕ) (ts : List Text) (ss : List CitedFact) → closed ts ≡ Some (ss, []) → StepsRead most ts ss

@@ -2,8 +2,9 @@
 use Rattle.std.specs.Prelude.{◌≡◌, ◌≢◌, ◌⊎◌, ℕ, List, Result, Ok, Err, IfOk, IfErr, MatchResult, refl}
 use Rattle.std.proofs.Common.{ap, inl, inr, subst}
 use Rattle.text_core.specs.Names.{Text}
-use Rattle.tptp_lexer.specs.Tokens.{Token, AreTokens, texts_of}
-use Rattle.tptp_lexer.proofs.Exact.{one_list, one_fault, never_both}
+use Rattle.tptp_lexer.specs.Tokens.{Token, AreTokens}
+use Rattle.tptp_lexer.specs.Columns.{texts_of}
+use Rattle.tptp_lexer.proofs.Laws.{one_list, one_fault, never_both}
 use Rattle.proof_checker.specs.declared.ground.GroundFormula.{GroundFormula}
 use Rattle.proof_checker.specs.declared.ground.CitedFact.{CitedFact}
 use Rattle.proof_checker.specs.declared.words.NotRead.{NotRead}

@@ -17,12 +17,12 @@ use Rattle.logic_core.specs.declared.problem.Role.{Role}
 use Rattle.logic_core.specs.declared.problem.Role.TheVariants.{Axiom, Conjecture, Hypothesis, Definition, Assumption, Lemma, Theorem, Corollary, NegatedConjecture}
 use Rattle.vernacular_tree.specs.declared.tree.Body.{Body}
 use Rattle.vernacular_tree.specs.Tasks.{IsTask}
-use Rattle.vernacular_tree.proofs.Truths.{goal_true}
+use Rattle.vernacular_tree.proofs.Laws.{goal_true}
 use Rattle.proof_checker.specs.declared.ground.GroundAtom.{GroundAtom}
 use Rattle.proof_checker.specs.declared.ground.GroundFormula.{GroundFormula}
 use Rattle.proof_checker.specs.declared.ground.CitedFact.{CitedFact}
 use Rattle.proof_checker.specs.Ground.{fof_of, is_premise, axioms_of, goals_of}
-use Rattle.proof_checker.specs.Tasks.{tables_of, place_of, atom_of, form_of, task_of}
+use Rattle.proof_checker.specs.Tasks.{tables_of, number_of, atom_of, form_of, task_of}
 use Rattle.proof_checker.specs.Accepted.{IsAccepted}
 use Rattle.proof_checker.proofs.Numbered.{IsIn, is_in}
 use Rattle.proof_checker.proofs.Acceptance.{goal_is, goal_among}
@@ -51,8 +51,8 @@ if_conjecture NegatedConjecture P p h = absurd (cc)
 
 module _ (s : Structure) (problem : List GroundFormula) where
   values_same : (vs : List ℕ) (xs : List Text)
-      → AllByRecursion (λ c. slice_get (tables_of problem).constants (place_of bytes_eq c (tables_of problem).constants) ≡ Some c) xs
-      → map (slot_value (interpretation s (tables_of problem)) vs) (map (λ c. Constant (place_of bytes_eq c (tables_of problem).constants)) xs)
+      → AllByRecursion (λ c. slice_get (tables_of problem).constants (number_of bytes_eq c (tables_of problem).constants) ≡ Some c) xs
+      → map (slot_value (interpretation s (tables_of problem)) vs) (map (λ c. Constant (number_of bytes_eq c (tables_of problem).constants)) xs)
       ≡ map (term_value s []) (map ConstantTerm xs)
   values_same vs [] all = refl
   values_same vs (x ∷ xs) all = let head = ap (λ o. s.place (text_or_empty o)) all.0 in let tail = values_same vs xs all.1 in λ i. head i ∷ tail i
@@ -103,10 +103,10 @@ module _ (s : Structure) (problem : List GroundFormula) where
   conjecture_true (g ∷ gs) goal more e holds = conjecture_by g gs goal more (is_premise g.role) refl e holds (λ later. conjecture_true gs goal more later holds)
 
   slots_below : (xs : List Text) (variables : ℕ)
-      → AllByRecursion (λ c. slice_get (tables_of problem).constants (place_of bytes_eq c (tables_of problem).constants) ≡ Some c) xs
-      → AllByRecursion (SlotIsBelow variables (length (tables_of problem).constants)) (map (λ c. Constant (place_of bytes_eq c (tables_of problem).constants)) xs)
+      → AllByRecursion (λ c. slice_get (tables_of problem).constants (number_of bytes_eq c (tables_of problem).constants) ≡ Some c) xs
+      → AllByRecursion (SlotIsBelow variables (length (tables_of problem).constants)) (map (λ c. Constant (number_of bytes_eq c (tables_of problem).constants)) xs)
   slots_below [] variables all = tt
-  slots_below (x ∷ xs) variables all = (slice_get_within (tables_of problem).constants (place_of bytes_eq x (tables_of problem).constants) x all.0, slots_below xs variables all.1)
+  slots_below (x ∷ xs) variables all = (slice_get_within (tables_of problem).constants (number_of bytes_eq x (tables_of problem).constants) x all.0, slots_below xs variables all.1)
 
   form_fits : (a : GroundAtom) → IsIn problem a → IsWellFormed (length (tables_of problem).constants) (form_of (tables_of problem) a)
   form_fits a is = record { premises = tt; disjuncts = ((slots_below a.args (0 + 0) is.constants, tt), tt) }

@@ -1,5 +1,5 @@
--- When a ground proof is accepted: the trees of rule applications that it stands for, after the 2014 paper
--- "A Vernacular for Coherent Logic".
+-- When a ground proof is accepted: the trees of rule applications that it stands for, after the
+-- 2014 paper "A Vernacular for Coherent Logic".
 use Rattle.std.specs.Prelude.{ℕ, ◌≡◌, ◌≢◌, List, [], ◌∷◌, take, slice_get, Some}
 use Rattle.std.specs.List.{AllByRecursion}
 use Rattle.text_core.specs.Names.{Text}
@@ -28,20 +28,24 @@ pub record StepStands (axioms : List GroundFormula) (step : CitedFact) (mp : Mp)
 
 abbrev pub StepsStand : List GroundFormula → List CitedFact → List Mp → Type 0
 StepsStand axioms [] mps = mps ≡ []
-StepsStand axioms (step ∷ steps) mps = (mp : Mp) × (more : List Mp) × (mps ≡ mp ∷ more) × StepStands axioms step mp × StepsStand axioms steps more
+StepsStand axioms (step ∷ steps) mps = (mp : Mp) × (more : List Mp) × (mps ≡ mp ∷ more)
+    × StepStands axioms step mp × StepsStand axioms steps more
 
 -- the proof stands for a tree of rule applications
-pub record Stands (problem : List GroundFormula) (steps : List CitedFact) (body : Body) : Type 0 where
+pub record Stands (problem : List GroundFormula) (steps : List CitedFact) (body : Body)
+    : Type 0 where
   pub applied : StepsStand (axioms_of problem) steps body.steps
   pub ended : body.end ≡ As 1 []
 
 -- the proof is accepted as a vernacular proof of the problem's task
-pub record IsAccepted (problem : List GroundFormula) (steps : List CitedFact) (body : Body) : Type 0 where
+pub record IsAccepted (problem : List GroundFormula) (steps : List CitedFact) (body : Body)
+    : Type 0 where
   pub stands : Stands problem steps body
   pub proves : Proves (task_of problem) body
 
 -- the bytes spell a proof that is accepted, with so many rule applications
-pub record AcceptsWith (problem : List GroundFormula) (bytes : Text) (applications : ℕ) : Type 0 where
+pub record AcceptsWith (problem : List GroundFormula) (bytes : Text) (applications : ℕ)
+    : Type 0 where
   pub steps : List CitedFact
   pub spelled : IsGroundProof bytes steps
   pub body : Body

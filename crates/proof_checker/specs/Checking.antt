@@ -15,17 +15,20 @@ atom_eq a b = bytes_eq a.predicate b.predicate && pointwise bytes_eq a.args b.ar
 -- the atom of the first axiom with a name
 abbrev pub cited_atom : Text → List GroundFormula → Option GroundAtom
 cited_atom cite [] = None
-cited_atom cite (g ∷ gs) = if is_premise g.role && bytes_eq g.name cite then Some g.atom else cited_atom cite gs
+cited_atom cite (g ∷ gs) = if is_premise g.role && bytes_eq g.name cite then Some g.atom
+    else cited_atom cite gs
 
 -- an atom that is there equals another one
 abbrev pub shows : Option GroundAtom → GroundAtom → Bool
 shows None a = false
 shows (Some b) a = atom_eq b a
 
--- each step shows the atom that it cites, and the goal stands before the steps or is shown by one of them
+-- each step shows the atom that it cites, and the goal stands before the steps or is shown by one
+-- of them
 abbrev pub accepts : List GroundFormula → GroundAtom → Bool → List CitedFact → Bool
 accepts problem goal stands [] = stands
-accepts problem goal stands (s ∷ ss) = shows (cited_atom s.cite problem) s.atom && accepts problem goal (stands || atom_eq s.atom goal) ss
+accepts problem goal stands (s ∷ ss) = shows (cited_atom s.cite problem) s.atom
+    && accepts problem goal (stands || atom_eq s.atom goal) ss
 
 abbrev pub first : List GroundAtom → Option GroundAtom
 first [] = None

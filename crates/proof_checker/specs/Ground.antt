@@ -1,14 +1,17 @@
--- Ground problems and ground proofs. A problem is ground where its formulas are atoms without variables, after the
--- TPTP syntax; a proof is the text of values that it spells, which cite axioms, and it ends with the goal.
-use Rattle.std.specs.Prelude.{◌≤◌, ◌≡◌, Bool, true, false, if◌then◌else◌, List, [], ◌∷◌, ◌++◌, length, map, codes}
+-- Ground problems and ground proofs. A problem is ground where its formulas are atoms without
+-- variables, after the TPTP syntax; a proof is the text of values that it spells, which cite
+-- axioms, and it ends with the goal.
+use Rattle.std.specs.Prelude.{◌≤◌, ◌<◌, ◌≡◌, Bool, true, false, if◌then◌else◌, List, [], ◌∷◌, ◌++◌, length, map, codes}
 use Rattle.std.specs.List.{AllByRecursion}
 use Rattle.text_core.specs.Names.{Text, is_lower, is_word_from}
+use Rattle.text_core.specs.declared.limits.TheConstants.{MOST_APPLICATIONS}
 use Rattle.logic_core.specs.declared.formula.Term.TheVariants.{Constant}
 use Rattle.logic_core.specs.declared.formula.Formula.{Formula, Pred}
 use Rattle.logic_core.specs.declared.problem.Role.{Role}
 use Rattle.logic_core.specs.declared.problem.Role.TheVariants.{Conjecture}
 use Rattle.logic_core.specs.declared.problem.Fof.{Fof}
-use Rattle.tptp_lexer.specs.Tokens.{Token, AreTokens, texts_of}
+use Rattle.tptp_lexer.specs.Tokens.{Token, AreTokens}
+use Rattle.tptp_lexer.specs.Columns.{texts_of}
 use Rattle.proof_checker.specs.declared.ground.GroundAtom.{GroundAtom}
 use Rattle.proof_checker.specs.declared.ground.GroundFormula.{GroundFormula}
 use Rattle.proof_checker.specs.declared.ground.CitedFact.{CitedFact}
@@ -36,7 +39,8 @@ abbrev pub goals_of : List GroundFormula → List GroundAtom
 goals_of [] = []
 goals_of (g ∷ gs) = if is_premise g.role then goals_of gs else g.atom ∷ goals_of gs
 
--- the formulas of the problem are these: at most 32 arguments each, and one of them is the conjecture
+-- the formulas of the problem are these: at most 32 arguments each, and one of them is the
+-- conjecture
 pub record IsGroundProblem (problem : List Fof) (formulas : List GroundFormula) : Type 0 where
   pub are : problem ≡ map fof_of formulas
   pub narrow : AllByRecursion (λ g. length g.atom.args ≤ 32) formulas
@@ -64,14 +68,16 @@ atom_texts a = a.predicate ∷ args_texts a.args
 
 -- the texts of the tokens that spell a step, the steps with the end, a proof
 abbrev pub step_texts : CitedFact → List Text
-step_texts s = codes "mp" ∷ s.cite ∷ codes "[" ∷ codes "]" ∷ codes "new" ∷ codes "[" ∷ codes "]" ∷ codes "gives" ∷ (atom_texts s.atom ++ codes "." ∷ [])
+step_texts s = codes "mp" ∷ s.cite ∷ codes "[" ∷ codes "]" ∷ codes "new" ∷ codes "[" ∷ codes "]"
+    ∷ codes "gives" ∷ (atom_texts s.atom ++ codes "." ∷ [])
 
 abbrev pub steps_texts : List CitedFact → List Text
 steps_texts [] = codes "as" ∷ codes "1" ∷ codes "[" ∷ codes "]" ∷ codes "." ∷ []
 steps_texts (s ∷ ss) = step_texts s ++ steps_texts ss
 
 abbrev pub proof_texts : List CitedFact → List Text
-proof_texts ss = codes "vernacular" ∷ codes "1" ∷ codes "." ∷ codes "take" ∷ codes "[" ∷ codes "]" ∷ codes "." ∷ steps_texts ss
+proof_texts ss = codes "vernacular" ∷ codes "1" ∷ codes "." ∷ codes "take" ∷ codes "[" ∷ codes "]"
+    ∷ codes "." ∷ steps_texts ss
 
 -- each name is a word that begins with a to z
 abbrev pub IsWord : Text → Type 0
@@ -85,12 +91,13 @@ pub record IsCited (s : CitedFact) : Type 0 where
   pub cite : IsWord s.cite
   pub atom : HasWords s.atom
 
--- the texts spell a ground proof: at most 65,536 rule applications, the end among them
+-- the texts spell a ground proof: at most `MOST_APPLICATIONS` rule applications, the end among them
 pub record IsProofOf (texts : List Text) (steps : List CitedFact) : Type 0 where
   pub spelled : texts ≡ proof_texts steps
   pub words : AllByRecursion IsCited steps
-  pub few : length steps ≤ 65535
+  pub few : length steps < MOST_APPLICATIONS
 
 -- the tokens of the bytes spell a ground proof
 abbrev pub IsGroundProof : Text → List CitedFact → Type 0
-IsGroundProof bytes steps = (tokens : List Token) × AreTokens bytes tokens × IsProofOf (texts_of tokens) steps
+IsGroundProof bytes steps = (tokens : List Token)
+    × AreTokens bytes tokens × IsProofOf (texts_of tokens) steps

@@ -14,4 +14,5 @@ IsMadeFrom make made (Err Memory) = Unit {0}
 
 -- each formula has at most 32 arguments, and one is a conjecture
 abbrev pub is_fit : List GroundFormula → Bool
-is_fit gs = list_all (λ (g : GroundFormula). nat_le (length g.atom.args) 32) gs && length (goals_of gs) == 1
+is_fit gs = list_all (λ (g : GroundFormula). nat_le (length g.atom.args) 32) gs
+    && length (goals_of gs) == 1

@@ -39,7 +39,7 @@ abbrev pub with_front : {X : Type 0} → List X → Read (List X) → Read (List
 with_front front None = None
 with_front front (Some read) = Some (front ++ read.0, read.1)
 
--- an argument: whether it is a word, and whether a comma or the closing bracket stands behind it
+-- an argument: whether it is a word, and whether a comma or the closing bracket is behind it
 abbrev pub args_step : Bool → Bool → Bool → Text → List Text → Read (List Text) → Read (List Text)
 args_step true true closed t ts more = with_front (t ∷ []) more
 args_step true false true t ts more = Some (t ∷ [], ts)
@@ -50,11 +50,14 @@ args_step false comma closed t ts more = None
 abbrev pub args_from : List Text → Read (List Text)
 args_from [] = None
 args_from (t ∷ []) = None
-args_from (t ∷ mark ∷ ts) = args_step (is_word_from is_lower t) (bytes_eq mark (codes ",")) (bytes_eq mark (codes ")")) t ts (args_from ts)
+args_from (t ∷ sign ∷ ts) = args_step
+    (is_word_from is_lower t) (bytes_eq sign (codes ",")) (bytes_eq sign (codes ")"))
+    t ts (args_from ts)
 
 abbrev pub atom_with_args : Text → Read (List Text) → Read GroundAtom
 atom_with_args predicate None = None
-atom_with_args predicate (Some read) = Some (record { predicate = predicate; args = read.0 }, read.1)
+atom_with_args predicate (Some read) =
+    Some (record { predicate = predicate; args = read.0 }, read.1)
 
 -- the arguments of a predicate, in brackets or left out
 abbrev pub atom_behind : Text → List Text → Option (List Text) → Read GroundAtom
@@ -62,25 +65,30 @@ atom_behind predicate ts None = Some (record { predicate = predicate; args = [] 
 atom_behind predicate ts (Some inner) = atom_with_args predicate (args_from inner)
 
 unfoldable pub atom_from : List Text → Read GroundAtom
-atom_from ts = option_and_then (λ (read : Text × List Text). atom_behind read.0 read.1 (after (codes "(") read.1)) (word_from ts)
+atom_from ts = option_and_then
+    (λ (read : Text × List Text). atom_behind read.0 read.1 (after (codes "(") read.1))
+    (word_from ts)
 
 -- a step from behind its citation on
 abbrev pub step_end : Text → GroundAtom × List Text → Read CitedFact
-step_end cite read = option_and_then (λ ts. Some (record { cite = cite; atom = read.0 }, ts)) (after (codes ".") read.1)
+step_end cite read = option_and_then
+    (λ ts. Some (record { cite = cite; atom = read.0 }, ts)) (after (codes ".") read.1)
 
 abbrev pub empty_list : List Text → Option (List Text)
 empty_list ts = option_and_then (after (codes "]")) (after (codes "[") ts)
 
 abbrev pub step_behind : Text × List Text → Read CitedFact
-step_behind cite = option_and_then (λ ts. option_and_then (λ ts. option_and_then (λ ts. option_and_then (step_end cite.0)
-    (atom_from ts)) (after (codes "gives") ts)) (empty_list ts)) (option_and_then (after (codes "new")) (empty_list cite.1))
+step_behind cite = option_and_then (λ ts. option_and_then (λ ts. option_and_then (λ ts.
+    option_and_then (step_end cite.0) (atom_from ts)) (after (codes "gives") ts)) (empty_list ts))
+    (option_and_then (after (codes "new")) (empty_list cite.1))
 
 unfoldable pub step_from : List Text → Read CitedFact
 step_from ts = option_and_then step_behind (word_from ts)
 
 -- the end of a proof
 abbrev pub end_from : List Text → Option (List Text)
-end_from ts = option_and_then (after (codes ".")) (option_and_then empty_list (option_and_then (after (codes "1")) (after (codes "as") ts)))
+end_from ts = option_and_then (after (codes "."))
+    (option_and_then empty_list (option_and_then (after (codes "1")) (after (codes "as") ts)))
 
 -- no further steps, where nothing is left
 abbrev pub closing : List Text → Read (List CitedFact)
@@ -90,16 +98,20 @@ closing (t ∷ ts) = None
 abbrev pub closed : List Text → Read (List CitedFact)
 closed ts = option_and_then closing (end_from ts)
 
-abbrev pub step_or_end : Option (List Text) → Read (List CitedFact) → (CitedFact × List Text → Read (List CitedFact)) → Read (List CitedFact)
+abbrev pub step_or_end : Option (List Text) → Read (List CitedFact)
+    → (CitedFact × List Text → Read (List CitedFact)) → Read (List CitedFact)
 step_or_end None end more = end
 step_or_end (Some ts) end more = option_and_then more (step_from ts)
 
 -- the steps up to the end of a proof, at most so many
 unfoldable pub steps_from : ℕ → List Text → Read (List CitedFact)
 steps_from zero ts = step_or_end (after (codes "mp") ts) (closed ts) (λ _. None)
-steps_from (suc most) ts = step_or_end (after (codes "mp") ts) (closed ts) (λ (read : CitedFact × List Text). with_front (read.0 ∷ []) (steps_from most read.1))
+steps_from (suc most) ts = step_or_end (after (codes "mp") ts) (closed ts)
+    (λ (read : CitedFact × List Text). with_front (read.0 ∷ []) (steps_from most read.1))
 
 -- a proof, at most so many steps long
 unfoldable pub proof_from : ℕ → List Text → Read (List CitedFact)
-proof_from most ts = option_and_then (λ ts. option_and_then (λ ts. option_and_then (λ ts. option_and_then (λ ts. option_and_then (λ ts.
-    option_and_then (steps_from most) (after (codes ".") ts)) (empty_list ts)) (after (codes "take") ts)) (after (codes ".") ts)) (after (codes "1") ts)) (after (codes "vernacular") ts)
+proof_from most ts = option_and_then (λ ts. option_and_then (λ ts. option_and_then (λ ts.
+    option_and_then (λ ts. option_and_then (λ ts. option_and_then (steps_from most)
+    (after (codes ".") ts)) (empty_list ts)) (after (codes "take") ts))
+    (after (codes ".") ts)) (after (codes "1") ts)) (after (codes "vernacular") ts)

@@ -1,4 +1,5 @@
--- The task of a ground problem: its names as numbers, in order of first occurrence, and its atoms as coherent forms.
+-- The task of a ground problem: its names as numbers, in order of first occurrence, and its atoms
+-- as coherent forms.
 use Rattle.std.specs.Prelude.{ℕ, suc, ◌==◌, max, Bool, true, ◌&&◌, if◌then◌else◌, List, [], ◌∷◌, ◌++◌, length, map}
 use Rattle.std.specs.Str.{bytes_eq}
 use Rattle.text_core.specs.Names.{Text}
@@ -26,10 +27,10 @@ module _ {X : Type 0} (same : X → X → Bool) where
   once [] = []
   once (x ∷ xs) = x ∷ others x (once xs)
 
-  -- the place of the first member that equals x
-  abbrev pub place_of : X → List X → ℕ
-  place_of x [] = 0
-  place_of x (y ∷ ys) = if same x y then 0 else suc (place_of x ys)
+  -- the number of the first member that equals x
+  abbrev pub number_of : X → List X → ℕ
+  number_of x [] = 0
+  number_of x (y ∷ ys) = if same x y then 0 else suc (number_of x ys)
 
 -- the symbol of an atom is its predicate with the number of its arguments
 abbrev pub symbol_of : GroundAtom → Symbol
@@ -50,20 +51,26 @@ tables_of gs = record {
 abbrev pub atom_of : Tables → GroundAtom → Atom
 atom_of tables a = record {
   positive = true;
-  symbol = suc (place_of symbol_eq (symbol_of a) tables.symbols);
-  args = map (λ c. Constant (place_of bytes_eq c tables.constants)) a.args;
+  symbol = suc (number_of symbol_eq (symbol_of a) tables.symbols);
+  args = map (λ c. Constant (number_of bytes_eq c tables.constants)) a.args;
 }
 
 -- an atom as a coherent form: it holds
 abbrev pub form_of : Tables → GroundAtom → Form
-form_of tables a = record { universals = 0; premises = []; existentials = 0; disjuncts = (atom_of tables a ∷ []) ∷ [] }
+form_of tables a = record {
+  universals = 0;
+  premises = [];
+  existentials = 0;
+  disjuncts = (atom_of tables a ∷ []) ∷ [];
+}
 
 -- the form of the goal; one without disjuncts where there is none
 abbrev pub goal_form : Tables → List GroundAtom → Form
 goal_form tables [] = record { universals = 0; premises = []; existentials = 0; disjuncts = [] }
 goal_form tables (a ∷ _) = form_of tables a
 
--- the forms are the axioms in order; the start elements are the constants, or a single element where there is none
+-- the forms are the axioms in order; the start elements are the constants, or a single element
+-- where there is none
 abbrev pub task_of : List GroundFormula → Task
 task_of gs = let tables = tables_of gs in record {
   forms = map (λ (g : GroundFormula). form_of tables g.atom) (axioms_of gs);

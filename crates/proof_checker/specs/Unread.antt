@@ -9,5 +9,6 @@ use Rattle.proof_checker.specs.declared.words.NotRead.TheVariants.{Lexical, NotB
 -- why the bytes are not read as a value that they spell; want of memory may come anywhere
 abbrev pub IsUnread : {X : Type 0} → (Text → X → Type 0) → Text → NotRead → Type 0
 IsUnread Spells bytes (Lexical refusal) = LexFault bytes refusal
-IsUnread {X} Spells bytes NotBuilt = ((tokens : List Token) × AreTokens bytes tokens) × ((value : X) → Spells bytes value → ⊥)
+IsUnread {X} Spells bytes NotBuilt =
+    ((tokens : List Token) × AreTokens bytes tokens) × ((value : X) → Spells bytes value → ⊥)
 IsUnread Spells bytes Memory = Unit {0}

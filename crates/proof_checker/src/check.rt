@@ -17,7 +17,8 @@ use tptp_lexer::LexRefusal;
 /// Why a proof is not accepted.
 #[derive(Debug, Drop)]
 pub enum FirstRefusal {
-    /// Its text has no tokens. The refusal tells the first refused place, and is never want of memory.
+    /// Its text has no tokens. The refusal tells the first refused offset, and is never want of
+    /// memory.
     Lexical(LexRefusal),
     /// Its form is not built yet: its tokens are no ground proof.
     NotBuilt,
@@ -67,7 +68,8 @@ fn cited_atom<'a>(cite: &[u8], problem: &'a [GroundFormula]) -> Option<&'a Groun
 }
 
 fn shows(problem: &[GroundFormula], step: &CitedFact) -> bool
-    ensures { result ≡ checking.shows (checking.cited_atom step.now.cite problem.now) step.now.atom }
+    ensures { result
+        ≡ checking.shows (checking.cited_atom step.now.cite problem.now) step.now.atom }
 {
     match cited_atom(step.cite.as_slice(), problem) {
         Some(atom) => are_same_atoms(atom, &step.atom),
@@ -99,11 +101,12 @@ fn goal_of(problem: &[GroundFormula]) -> Option<&GroundAtom>
     None
 }
 
-/// Checks a ground proof, in fewer than 2 ^ 32 bytes, against a ground problem. `Ok` is the number of rule
-/// applications of a vernacular proof for which it stands, by the rules of the 2014 paper "A Vernacular for
-/// Coherent Logic". `Lexical` comes exactly where the bytes have no tokens, with the first refused place, `NotBuilt`
-/// exactly where they have tokens and these spell no ground proof, `Refused` exactly where they spell one that
-/// stands for no vernacular proof of the problem, and `Memory` is want of memory.
+/// Checks a ground proof, in fewer than 2 ^ 32 bytes, against a ground problem. `Ok` is the number
+/// of rule applications of a vernacular proof for which it stands, by the rules of the 2014 paper
+/// "A Vernacular for Coherent Logic". `Lexical` comes exactly where the bytes have no tokens, with
+/// the first refused offset, `NotBuilt` exactly where they have tokens and these spell no ground
+/// proof, `Refused` exactly where they spell one that stands for no vernacular proof of the
+/// problem, and `Memory` is want of memory.
 pub fn check_first(
     alloc: Global,
     problem: &[GroundFormula],
@@ -114,8 +117,10 @@ pub fn check_first(
     ensures accepted { IfOk result (AcceptsWith problem.now proof.now) }
     ensures refused { IfErr result (IsRefusedAs problem.now proof.now) }
     // Where the proof is not accepted, the answer says why, unless memory runs out.
-    ensures told { (refusal : Refusal) → refusal ≢ FirstRefusal.Memory → IsRefusedAs problem.now proof.now refusal
-        → MatchResult result (λ size. ⊥) (λ answer. (answer ≡ refusal) ⊎ (answer ≡ FirstRefusal.Memory)) }
+    ensures told { (refusal : Refusal) → refusal ≢ FirstRefusal.Memory
+        → IsRefusedAs problem.now proof.now refusal
+        → MatchResult result (λ size. ⊥)
+        (λ answer. (answer ≡ refusal) ⊎ (answer ≡ FirstRefusal.Memory)) }
 {
     let steps = match read_ground_proof(alloc, proof) {
         Ok(steps) => steps,

@@ -15,7 +15,8 @@ pub struct GroundFormula {
     pub atom: GroundAtom,
 }
 
-/// A step of a ground proof: the name of the axiom that it cites, and the fact that it says the axiom gives.
+/// A step of a ground proof: the name of the axiom that it cites, and the fact that it says the
+/// axiom gives.
 #[derive(Debug, Drop)]
 pub struct CitedFact {
     pub cite: Bytes,

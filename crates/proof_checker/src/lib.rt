@@ -1,17 +1,17 @@
-//! Checks proofs of ground problems: problems whose formulas are atoms without variables, and proofs that cite
-//! their axioms one after another.
+//! Checks proofs of ground problems: problems whose formulas are atoms without variables, and
+//! proofs that cite their axioms one after another.
 #![tactic(auto)]
 
 mod check;
 mod ground;
-mod laws;
+mod law;
 mod problem;
 mod reader;
 mod words;
 
 pub use check::{FirstRefusal, check_first};
 pub use ground::{CitedFact, GroundAtom, GroundFormula};
-pub use laws::accepted_follows;
+pub use law::accepted_follows;
 pub use problem::{NotGround, ground_formulas};
 pub use reader::read_ground_proof;
 pub use words::NotRead;

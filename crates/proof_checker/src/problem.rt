@@ -105,9 +105,9 @@ fn is_fit(formulas: &[GroundFormula]) -> bool
     is_narrow(formulas) && count_goals(formulas) == 1
 }
 
-/// The formulas of a ground problem, in order: each is a predicate with at most 32 constants, one is the conjecture,
-/// and the others have any other role. `NotBuilt` comes exactly where the problem is no such one, and `Memory` is
-/// want of memory. Source: the TPTP syntax, FOF.
+/// The formulas of a ground problem, in order: each is a predicate with at most 32 constants, one
+/// is the conjecture, and the others have any other role. `NotBuilt` comes exactly where the
+/// problem is no such one, and `Memory` is want of memory. Source: the TPTP syntax, FOF.
 pub fn ground_formulas(alloc: Global, problem: &Problem) -> Result<List<GroundFormula>, NotGround>
     ensures read { IfOk result (IsGroundProblem problem.now) }
     ensures found { (formulas : Lst Ground) → IsGroundProblem problem.now formulas

@@ -1,5 +1,6 @@
 ghost use Rattle.std.specs.Prelude.{◌≡◌, ◌≢◌, ◌⊎◌, [], ◌<◌, ◌^◌, length, List as Lst, IfOk, IfErr, MatchResult};
-ghost use Rattle.tptp_lexer.specs.Tokens.{Token, AreTokens, texts_of};
+ghost use Rattle.tptp_lexer.specs.Tokens.{Token, AreTokens};
+ghost use Rattle.tptp_lexer.specs.Columns.{texts_of};
 ghost use Rattle.proof_checker.specs.declared.words.NotRead.{NotRead as Fault};
 ghost use Rattle.proof_checker.specs.declared.words.NotRead.TheVariants as faults;
 ghost use Rattle.proof_checker.specs.declared.ground.CitedFact.{CitedFact as Step};
@@ -11,10 +12,11 @@ use crate::ground::{CitedFact, GroundAtom};
 use crate::words::{NotRead, after, skip, word};
 use logic_core::{Bytes, List, Memory};
 use std::alloc::Global;
+use text_core::MOST_APPLICATIONS;
 use tptp_lexer::{LexRefusal, Tokens, tokens};
 
-/// The greatest number of steps of a proof: with its end it has 65,536 rule applications.
-const MOST_STEPS: usize = 65535;
+/// The greatest number of steps of a proof: its end is a rule application too.
+const MOST_STEPS: usize = MOST_APPLICATIONS as usize - 1;
 
 /// Words with a comma between each two, up to the closing bracket.
 #[tactic(auto, using(crate::proofs::Fronts::fronts))]
@@ -134,7 +136,7 @@ fn read_proof(alloc: Global, texts: &[Bytes], most: usize) -> Result<List<CitedF
 }
 
 /// The texts of tokens, in order.
-#[tactic(auto, using(crate::proofs::Texts::take_next))]
+#[tactic(auto, using(text_core::proofs::Laws::take_next))]
 fn token_texts(alloc: Global, tokens: &Tokens<'_>) -> Result<List<Bytes>, Memory>
     ensures { IfOk result (λ texts. texts ≡ texts_of tokens.now.tokens) }
 {
@@ -148,8 +150,10 @@ fn token_texts(alloc: Global, tokens: &Tokens<'_>) -> Result<List<Bytes>, Memory
 /// The texts of the tokens of some bytes.
 fn texts_in(alloc: Global, bytes: &[u8]) -> Result<List<Bytes>, NotRead>
     requires { length bytes.now < 2 ^ 32 }
-    ensures tokens { IfOk result (λ texts. (ts : Lst Token) × AreTokens bytes.now ts × (texts ≡ texts_of ts)) }
-    ensures found { (ts : Lst Token) → AreTokens bytes.now ts → MatchResult result (λ texts. texts ≡ texts_of ts) (λ fault. fault ≡ faults.Memory) }
+    ensures tokens { IfOk result (λ texts. (ts : Lst Token) × AreTokens bytes.now ts
+        × (texts ≡ texts_of ts)) }
+    ensures found { (ts : Lst Token) → AreTokens bytes.now ts
+        → MatchResult result (λ texts. texts ≡ texts_of ts) (λ fault. fault ≡ faults.Memory) }
     ensures refused { IfErr result (IsUnread AreTokens bytes.now) }
 {
     match tokens(alloc, bytes) {
@@ -161,19 +165,22 @@ fn texts_in(alloc: Global, bytes: &[u8]) -> Result<List<Bytes>, NotRead>
 
 fn read_steps_of(alloc: Global, texts: &[Bytes]) -> Result<List<CitedFact>, NotRead>
     ensures read { IfOk result (IsProofOf texts.now) }
-    ensures found { (steps : Lst Step) → IsProofOf texts.now steps → MatchResult result (λ read. read ≡ steps) (λ fault. fault ≡ faults.Memory) }
+    ensures found { (steps : Lst Step) → IsProofOf texts.now steps
+        → MatchResult result (λ read. read ≡ steps) (λ fault. fault ≡ faults.Memory) }
     ensures refused { IfErr result (IsMisfit (IsProofOf texts.now)) }
 {
     read_proof(alloc, texts, MOST_STEPS)
 }
 
-/// The steps of a ground proof in fewer than 2 ^ 32 bytes, in order, at most 65,535, which its end follows.
-/// `Lexical` comes exactly where the bytes have no tokens, with the first refused place, `NotBuilt` exactly where
-/// they have tokens and these spell no ground proof, and `Memory` is want of memory.
+/// The steps of a ground proof in fewer than 2 ^ 32 bytes, in order, fewer than
+/// `MOST_APPLICATIONS`, which its end follows. `Lexical` comes exactly where the bytes have no
+/// tokens, with the first refused offset, `NotBuilt` exactly where they have tokens and these spell
+/// no ground proof, and `Memory` is want of memory.
 pub fn read_ground_proof(alloc: Global, bytes: &[u8]) -> Result<List<CitedFact>, NotRead>
     requires { length bytes.now < 2 ^ 32 }
     ensures read { IfOk result (IsGroundProof bytes.now) }
-    ensures found { (steps : Lst Step) → IsGroundProof bytes.now steps → MatchResult result (λ read. read ≡ steps) (λ fault. fault ≡ faults.Memory) }
+    ensures found { (steps : Lst Step) → IsGroundProof bytes.now steps
+        → MatchResult result (λ read. read ≡ steps) (λ fault. fault ≡ faults.Memory) }
     ensures refused { IfErr result (IsUnread IsGroundProof bytes.now) }
     // Where the bytes are not read, the answer says why, unless memory runs out.
     ensures told { (fault : Fault) → fault ≢ faults.Memory → IsUnread IsGroundProof bytes.now fault

@@ -1,17 +1,16 @@
 ghost use Rattle.std.specs.Prelude.{◌≡◌, option_map};
-ghost use Rattle.std.specs.List.{list_all};
 ghost use Rattle.std.specs.Str.{bytes_eq};
-ghost use Rattle.text_core.specs.Names as names;
 ghost use Rattle.proof_checker.specs.Reading.{Gives, after, word_from};
 
 use logic_core::{Bytes, Memory};
 use std::alloc::Global;
+use text_core::is_lower_word;
 use tptp_lexer::LexRefusal;
 
 /// Why a text was not read.
 #[derive(Debug, Drop)]
 pub enum NotRead {
-    /// It has no tokens. The refusal tells the first refused place, and is never want of memory.
+    /// It has no tokens. The refusal tells the first refused offset, and is never want of memory.
     Lexical(LexRefusal),
     /// Its form is not built yet: its tokens are no ground proof.
     NotBuilt,
@@ -26,36 +25,6 @@ impl From<Memory> for NotRead {
 
     fn from(_want: Memory) -> NotRead {
         NotRead::Memory
-    }
-}
-
-fn is_lower(byte: u8) -> bool
-    ensures { result ≡ names.is_lower byte }
-{
-    b'a' <= byte && byte <= b'z'
-}
-
-fn goes_on(byte: u8) -> bool
-    ensures { result ≡ names.is_word byte }
-{
-    is_lower(byte)
-        || (b'A' <= byte && byte <= b'Z')
-        || (b'0' <= byte && byte <= b'9')
-        || byte == b'_'
-}
-
-fn all_go_on(bytes: &[u8]) -> bool
-    ensures { result ≡ list_all names.is_word bytes.now }
-{
-    bytes.iter().all(|byte| goes_on(*byte))
-}
-
-fn is_word(text: &[u8]) -> bool
-    ensures { result ≡ names.is_word_from names.is_lower text.now }
-{
-    match text {
-        [] => false,
-        [first, rest @ ..] => is_lower(*first) && all_go_on(rest),
     }
 }
 
@@ -92,7 +61,7 @@ pub(crate) fn word(alloc: Global, texts: &[Bytes]) -> Result<(Bytes, &[Bytes]), 
     match texts {
         [] => Err(NotRead::NotBuilt),
         [text, rest @ ..] => {
-            if !is_word(text.as_slice()) {
+            if !is_lower_word(text.as_slice()) {
                 return Err(NotRead::NotBuilt);
             }
             let word = Bytes::from_slice(alloc, text.as_slice())?;

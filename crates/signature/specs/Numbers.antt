@@ -10,29 +10,29 @@ use Rattle.text_core.specs.Numbered.{Symbol}
 abbrev pub is_symbol : Text → ℕ → Symbol → Bool
 is_symbol name arity symbol = pointwise nat_eq name symbol.name && (arity == symbol.arity)
 
--- no symbol stands twice in the list
+-- no symbol is in the list twice
 abbrev pub AreDistinctSymbols : List Symbol → Type 0
 AreDistinctSymbols symbols = IsDistinct (λ s t. is_symbol s.name s.arity t) symbols
 
--- no constant stands twice in the list
+-- no constant is in the list twice
 abbrev pub AreDistinctConstants : List Text → Type 0
 AreDistinctConstants constants = IsDistinct (pointwise nat_eq) constants
 
--- the number of a symbol is one more than its place in the list, since equality has number 0; one that is not
--- there comes after the last
+-- the number of a symbol is one more than its number in the list, since equality has number 0; one
+-- that is not there comes after the last
 unfoldable pub symbol_number : List Symbol → Text → ℕ → ℕ
 symbol_number symbols name arity = position_or_len (is_symbol name arity) symbols + 1
 
 -- the number of a symbol that is there
 unfoldable pub found_symbol : List Symbol → Text → ℕ → Option ℕ
-found_symbol symbols name arity = option_map (λ place. place + 1) (position (is_symbol name arity) symbols)
+found_symbol symbols name arity = option_map (λ n. n + 1) (position (is_symbol name arity) symbols)
 
 -- the list with this symbol last, unless it is there
 unfoldable pub with_symbol : List Symbol → Text → ℕ → List Symbol
-with_symbol symbols name arity =
-    if list_any (is_symbol name arity) symbols then symbols else symbols ++ record { name = name; arity = arity } ∷ []
+with_symbol symbols name arity = if list_any (is_symbol name arity) symbols then symbols
+    else symbols ++ record { name = name; arity = arity } ∷ []
 
--- the number of a constant is its place in the list; one that is not there comes after the last
+-- the number of a constant is its number in the list; one that is not there comes after the last
 unfoldable pub constant_number : List Text → Text → ℕ
 constant_number constants name = position_or_len (pointwise nat_eq name) constants
 
@@ -42,4 +42,5 @@ found_constant constants name = position (pointwise nat_eq name) constants
 
 -- the list with this constant last, unless it is there
 unfoldable pub with_constant : List Text → Text → List Text
-with_constant constants name = if list_any (pointwise nat_eq name) constants then constants else constants ++ name ∷ []
+with_constant constants name = if list_any (pointwise nat_eq name) constants then constants
+    else constants ++ name ∷ []

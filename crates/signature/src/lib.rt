@@ -3,7 +3,5 @@
 
 mod names;
 mod tables;
-#[cfg(test)]
-mod tests;
 
 pub use tables::Tables;

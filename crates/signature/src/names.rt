@@ -4,10 +4,11 @@ ghost use Rattle.std.specs.Cmp.Lexicographic.{pointwise};
 ghost use Rattle.signature.specs.Columns.{name_number, found_name, with_name};
 
 use indexmap::IndexSet;
-use text_core::{Memory, Name};
 use std::alloc::Global;
+use text_core::{Memory, Name};
 
-/// The number of a name, which goes last if it is new. `Memory` is want of memory, and the names are as before.
+/// The number of a name, which goes last if it is new. `Memory` is want of memory, and the names
+/// are as before.
 pub(crate) fn number_of(
     alloc: Global,
     names: &mut IndexSet<Name>,
@@ -21,11 +22,11 @@ pub(crate) fn number_of(
     ensures distinct { IsDistinct (pointwise nat_eq) names.new.keys }
 {
     match names.get_index_of(name) {
-        Some(place) => Ok(place as u32),
+        Some(number) => Ok(number as u32),
         None => {
             let copy = name.try_copy(alloc)?;
-            let (place, _) = names.insert_full(copy)?;
-            Ok(place as u32)
+            let (number, _) = names.insert_full(copy)?;
+            Ok(number as u32)
         }
     }
 }
@@ -36,7 +37,7 @@ pub(crate) fn found(names: &IndexSet<Name>, name: &Name) -> Option<u32>
     ensures { result ≡ found_name names.now.keys name.now }
 {
     match names.get_index_of(name) {
-        Some(place) => Some(place as u32),
+        Some(number) => Some(number as u32),
         None => None,
     }
 }

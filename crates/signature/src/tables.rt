@@ -4,13 +4,13 @@ ghost use Rattle.signature.specs.Numbers.{AreDistinctSymbols, AreDistinctConstan
 
 use crate::names;
 use indexmap::IndexSet;
-use text_core::{Memory, Name};
 use std::alloc::Global;
 use std::marker::Model;
+use text_core::{Memory, Name};
 
-/// The predicate symbols and the constants of a problem, numbered in order of first occurrence. Contracts see
-/// two lists. Symbol 0 is equality, of arity 2, which no name gives and which is not in the list: symbol
-/// `n + 1` is the one at place `n`.
+/// The predicate symbols and the constants of a problem, numbered in order of first occurrence.
+/// Contracts see two lists. Symbol 0 is equality, of arity 2, which no name gives and which is not
+/// in the list: symbol `n + 1` is number `n` of the list.
 #[derive(Drop)]
 pub struct Tables {
     alloc: Global,
@@ -25,7 +25,10 @@ impl Model for Tables {
 
     ghost Value = { Numbering };
 
-    ghost view = { λ t. record { symbols = symbols_in t.names.keys t.pairs.keys; constants = t.constants.keys } };
+    ghost view = { λ t. record {
+      symbols = symbols_in t.names.keys t.pairs.keys;
+      constants = t.constants.keys;
+    } };
 
     ghost invariant = { λ t. AreTables t.names.keys t.pairs.keys t.constants.keys };
 }
@@ -43,43 +46,48 @@ impl Tables {
         })
     }
 
-    /// The number of the symbol with this name and arity, which goes last if it is new. There are fewer than
-    /// 4,294,967,295 symbols. `Memory` is want of memory, and the tables are as before.
+    /// The number of the symbol with this name and arity, which goes last if it is new. There are
+    /// fewer than 4,294,967,295 symbols. `Memory` is want of memory, and the tables are as before.
     pub fn symbol(&mut self, name: &Name, arity: u32) -> Result<u32, Memory>
         requires { length self.old.symbols + 1 < 4294967295 }
-        ensures number { IfOk result (λ number. number ≡ symbol_number self.old.symbols name.now arity) }
-        ensures ok { OnOk result (self.new ≡ record self.old { symbols = with_symbol self.old.symbols name.now arity }) }
+        ensures number { IfOk result (λ n. n ≡ symbol_number self.old.symbols name.now arity) }
+        ensures ok { OnOk result (self.new ≡ record self.old {
+          symbols = with_symbol self.old.symbols name.now arity;
+        }) }
         ensures err { OnErr result (self.new ≡ self.old) }
     {
         self.pairs.reserve(1)?;
         let named = names::number_of(self.alloc, &mut self.names, name)?;
-        let (place, _) = self.pairs.insert_full((named, arity))?;
-        Ok(place as u32 + 1)
+        let (pair, _) = self.pairs.insert_full((named, arity))?;
+        Ok(pair as u32 + 1)
     }
 
-    /// The number of the constant with this name, which goes last if it is new. There are fewer than
-    /// 4,294,967,295 constants. `Memory` is want of memory, and the tables are as before.
+    /// The number of the constant with this name, which goes last if it is new. There are fewer
+    /// than 4,294,967,295 constants. `Memory` is want of memory, and the tables are as before.
     #[tactic(auto, unfolding(crate::specs::Numbers::constant_number, crate::specs::Numbers::with_constant))]
     pub fn constant(&mut self, name: &Name) -> Result<u32, Memory>
         requires { length self.old.constants < 4294967295 }
-        ensures number { IfOk result (λ number. number ≡ constant_number self.old.constants name.now) }
-        ensures ok { OnOk result (self.new ≡ record self.old { constants = with_constant self.old.constants name.now }) }
+        ensures number { IfOk result (λ n. n ≡ constant_number self.old.constants name.now) }
+        ensures ok { OnOk result (self.new ≡ record self.old {
+          constants = with_constant self.old.constants name.now;
+        }) }
         ensures err { OnErr result (self.new ≡ self.old) }
     {
         names::number_of(self.alloc, &mut self.constants, name)
     }
 
-    /// The number of the symbol with this name and arity; `None` exactly where it is not there. It takes no
-    /// memory.
+    /// The number of the symbol with this name and arity; `None` exactly where it is not there. It
+    /// takes no memory.
     pub fn find_symbol(&self, name: &Name, arity: u32) -> Option<u32>
         ensures { result ≡ found_symbol self.now.symbols name.now arity }
     {
         let named = names::found(&self.names, name)?;
-        let place = self.pairs.get_index_of(&(named, arity))?;
-        Some(place as u32 + 1)
+        let pair = self.pairs.get_index_of(&(named, arity))?;
+        Some(pair as u32 + 1)
     }
 
-    /// The number of the constant with this name; `None` exactly where it is not there. It takes no memory.
+    /// The number of the constant with this name; `None` exactly where it is not there. It takes no
+    /// memory.
     #[tactic(auto, unfolding(crate::specs::Numbers::found_constant))]
     pub fn find_constant(&self, name: &Name) -> Option<u32>
         ensures { result ≡ found_constant self.now.constants name.now }
@@ -87,7 +95,7 @@ impl Tables {
         names::found(&self.constants, name)
     }
 
-    /// The number of symbols, equality included. No symbol stands twice.
+    /// The number of symbols, equality included. No symbol is there twice.
     pub fn symbols(&self) -> u32
         ensures count { result ≡ length self.now.symbols + 1 }
         ensures distinct { AreDistinctSymbols self.now.symbols }
@@ -95,7 +103,7 @@ impl Tables {
         self.pairs.len() as u32 + 1
     }
 
-    /// The number of constants. No constant stands twice.
+    /// The number of constants. No constant is there twice.
     pub fn constants(&self) -> u32
         ensures count { result ≡ length self.now.constants }
         ensures distinct { AreDistinctConstants self.now.constants }
@@ -107,7 +115,8 @@ impl Tables {
     pub fn symbol_name(&self, number: u32) -> &Name
         requires named { 0 < number }
         requires there { number < length self.now.symbols + 1 }
-        ensures { option_map (λ s. s.name) (slice_get self.now.symbols (number - 1)) ≡ Some result.now }
+        ensures { option_map (λ s. s.name) (slice_get self.now.symbols (number - 1))
+            ≡ Some result.now }
     {
         let (named, _) = self.pairs.as_slice()[number as usize - 1];
         &self.names.as_slice()[named as usize]
@@ -117,7 +126,8 @@ impl Tables {
     pub fn arity(&self, number: u32) -> u32
         requires { number < length self.now.symbols + 1 }
         ensures equality { number ≡ 0 → result ≡ 2 }
-        ensures named { 0 < number → option_map (λ s. s.arity) (slice_get self.now.symbols (number - 1)) ≡ Some result }
+        ensures named { 0 < number
+            → option_map (λ s. s.arity) (slice_get self.now.symbols (number - 1)) ≡ Some result }
     {
         if number == 0 {
             return 2;

@@ -1,6 +1,7 @@
 -- Laws for every crate: on lists, on members, on items by their number, on fronts, on tests, on options and on exact answers.
 use Rattle.std.proofs.Common.{◌≡◌, ℕ, zero, suc, ◌+◌, ◌<◌, ◌≤◌, ◌==◌, ◌⊎◌, inl, inr, Bool, true, false, not, ◌&&◌, ◌||◌, List, [], ◌∷◌, ◌++◌, map, length, take, slice_get, slice_index, Some, Result, Ok, Err, refl, ap, subst, arith, add-one}
 use Rattle.std.specs.List.{AllByRecursion}
+use Rattle.text_core.specs.Names.{Text, IsPrintable, IsNameText}
 use Rattle.text_core.specs.Lists.{SomeOf, IsAmong}
 use Rattle.text_core.specs.Exact.{Exact}
 
@@ -221,3 +222,8 @@ module _ {X E : Type 0} (IsValue : X → Type 0) (IsRefused : E → Type 0) (mem
     found = λ value also. elim is [ inl none ↦ none | inr refused ↦ absurd (never_both value why also refused) ];
     told = λ reason also. elim is [ inl none ↦ inr none | inr refused ↦ inl (one_refusal why reason refused also) ];
   }
+
+-- each byte of a name is printable
+pub name_printable : (text : Text) → IsNameText text → IsPrintable text
+name_printable [] n = absurd n
+name_printable (b ∷ bs) n = n

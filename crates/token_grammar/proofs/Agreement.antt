@@ -40,7 +40,7 @@ front_taken (part alternative a rest) (u ∷ us) vs e =
     (qs, rs, split, same, part alternative a front)
 
 -- what is seen is seen from the front on
-front_seen : {P T S F : Type 0} (watcher : Watcher P T S F) (qs rs : List P) (us vs : List T) (before after : S) → length qs ≡ length us →
+pub front_seen : {P T S F : Type 0} (watcher : Watcher P T S F) (qs rs : List P) (us vs : List T) (before after : S) → length qs ≡ length us →
     Sees watcher before (qs ++ rs) (us ++ vs) after → (between : S) × Sees watcher before qs us between × Sees watcher between rs vs after
 front_seen watcher [] rs [] vs before after same seen = (before, refl, seen)
 front_seen watcher [] rs (u ∷ us) vs before after same seen = absurd (omega arith)
@@ -77,7 +77,7 @@ module _ {P T : Type 0} (g : Grammar P T) (plan : Plan P T) (law : IsPredictive 
   one_taking_of_text start whole other ts takers others first second =
       one_taking others (leaves_start g plan law start).safe first second
 
-taken_length : {P T : Type 0} {g : Grammar P T} {whole : Bool} {row : List P} {ts : List T} {takers : List P} →
+pub taken_length : {P T : Type 0} {g : Grammar P T} {whole : Bool} {row : List P} {ts : List T} {takers : List P} →
     Taken g whole row ts takers → length takers ≡ length ts
 taken_length (stop h) = refl
 taken_length (token h rest) = ap suc (taken_length rest)
@@ -166,9 +166,9 @@ module _ {P T S F : Type 0} (g : Grammar P T) (plan : Plan P T) (watcher : Watch
   early_clean : (after : S) → IsEarlyEnd g watcher start before ts after → CleanTo (length ts)
   early_clean after e = whole_clean false after e.clean.0 e.clean.1
 
-  same_place : (i j : ℕ) → CleanTo i → CleanTo j → Barrier i → Barrier j → i ≡ j
+  same_number : (i j : ℕ) → CleanTo i → CleanTo j → Barrier i → Barrier j → i ≡ j
   unfolding Barrier
-  same_place i j first second here there = elim (cases_order i j) [
+  same_number i j first second here there = elim (cases_order i j) [
     | inl e ↦ e
     | inr apart ↦ elim apart [ inl less ↦ absurd (here j less second) | inr more ↦ absurd (there i more first) ]
   ]
@@ -176,20 +176,20 @@ module _ {P T S F : Type 0} (g : Grammar P T) (plan : Plan P T) (watcher : Watch
   one_unexpected : (a b : S) (i j : ℕ) (last other : Option P) → IsUnexpected g watcher start before ts a i last →
       IsUnexpected g watcher start before ts b j other → ◌≡◌ {A = Refusal P F} (Unexpected i last) (Unexpected j other)
   one_unexpected a b i j last other u v =
-      let place = same_place i j (unexpected_clean a i last u) (unexpected_clean b j other v)
+      let one = same_number i j (unexpected_clean a i last u) (unexpected_clean b j other v)
       (unexpected_barrier a i last u) (unexpected_barrier b j other v) in
       let (takers, clean, ending) = u.clean in
       let (others, also, ended) = v.clean in
       let same = one_taking_of_text g plan law start false false (take i ts) takers others clean.taken
-      (subst (λ n. Taken g false (start ∷ []) (take n ts) others) (sym place) also.taken) in
+      (subst (λ n. Taken g false (start ∷ []) (take n ts) others) (sym one) also.taken) in
       cc (ap last_of same)
 
   no_both : (a : S) (i j : ℕ) (last : Option P) (fault : F) → IsUnexpected g watcher start before ts a i last →
       IsStopped g watcher start before ts j fault → ⊥
   no_both a i j last fault u s =
-      let place = same_place i j (unexpected_clean a i last u) (stopped_clean j fault s)
+      let one = same_number i j (unexpected_clean a i last u) (stopped_clean j fault s)
       (unexpected_barrier a i last u) (stopped_barrier j fault s) in
-      u.first.refused (subst (λ n. BeginsText g start (take (n + 1) ts)) (sym place) s.begins)
+      u.first.refused (subst (λ n. BeginsText g start (take (n + 1) ts)) (sym one) s.begins)
 
   faults_at : (n : ℕ) (e f : F) → IsStopped g watcher start before ts n e → IsStopped g watcher start before ts n f → e ≡ f
   faults_at n e f s r =
@@ -211,8 +211,8 @@ module _ {P T S F : Type 0} (g : Grammar P T) (plan : Plan P T) (watcher : Watch
   one_stopped : (i j : ℕ) (e f : F) → IsStopped g watcher start before ts i e → IsStopped g watcher start before ts j f →
       ◌≡◌ {A = Refusal P F} (Stopped i e) (Stopped j f)
   one_stopped i j e f s r =
-      let place = same_place i j (stopped_clean i e s) (stopped_clean j f r) (stopped_barrier i e s) (stopped_barrier j f r) in
-      let fault = faults_at i e f s (subst (λ n. IsStopped g watcher start before ts n f) (sym place) r) in
+      let one = same_number i j (stopped_clean i e s) (stopped_clean j f r) (stopped_barrier i e s) (stopped_barrier j f r) in
+      let fault = faults_at i e f s (subst (λ n. IsStopped g watcher start before ts n f) (sym one) r) in
       cc
 
   pub answers_agree : (a b : S) (first second : Result (Unit {0}) (Refusal P F)) → IsAnswer g watcher start before ts a first →
@@ -222,32 +222,32 @@ module _ {P T S F : Type 0} (g : Grammar P T) (plan : Plan P T) (watcher : Watch
   answers_agree a b (Ok done) (Err Memory) h k = tt
   answers_agree a b (Ok done) (Ok also) h k = refl
   answers_agree a b (Ok done) (Err EndsEarly) h k = absurd (k.unfinished.no_text h.text)
-  answers_agree a b (Ok done) (Err (Unexpected place last)) h k =
-      absurd (unexpected_barrier b place last k (length ts) k.first.within (accepted_clean a h))
-  answers_agree a b (Ok done) (Err (Stopped place fault)) h k =
-      absurd (stopped_barrier place fault k (length ts) k.within (accepted_clean a h))
+  answers_agree a b (Ok done) (Err (Unexpected number last)) h k =
+      absurd (unexpected_barrier b number last k (length ts) k.first.within (accepted_clean a h))
+  answers_agree a b (Ok done) (Err (Stopped number fault)) h k =
+      absurd (stopped_barrier number fault k (length ts) k.within (accepted_clean a h))
   answers_agree a b (Err EndsEarly) (Err Memory) h k = tt
   answers_agree a b (Err EndsEarly) (Ok also) h k = absurd (h.unfinished.no_text k.text)
   answers_agree a b (Err EndsEarly) (Err EndsEarly) h k = refl
-  answers_agree a b (Err EndsEarly) (Err (Unexpected place last)) h k =
-      absurd (unexpected_barrier b place last k (length ts) k.first.within (early_clean a h))
-  answers_agree a b (Err EndsEarly) (Err (Stopped place fault)) h k =
-      absurd (stopped_barrier place fault k (length ts) k.within (early_clean a h))
-  answers_agree a b (Err (Unexpected place last)) (Err Memory) h k = tt
-  answers_agree a b (Err (Unexpected place last)) (Ok also) h k =
-      absurd (unexpected_barrier a place last h (length ts) h.first.within (accepted_clean b k))
-  answers_agree a b (Err (Unexpected place last)) (Err EndsEarly) h k =
-      absurd (unexpected_barrier a place last h (length ts) h.first.within (early_clean b k))
-  answers_agree a b (Err (Unexpected place last)) (Err (Unexpected other end)) h k =
-      ap Err (one_unexpected a b place other last end h k)
-  answers_agree a b (Err (Unexpected place last)) (Err (Stopped other fault)) h k = absurd (no_both a place other last fault h k)
-  answers_agree a b (Err (Stopped place fault)) (Err Memory) h k = tt
-  answers_agree a b (Err (Stopped place fault)) (Ok also) h k =
-      absurd (stopped_barrier place fault h (length ts) h.within (accepted_clean b k))
-  answers_agree a b (Err (Stopped place fault)) (Err EndsEarly) h k =
-      absurd (stopped_barrier place fault h (length ts) h.within (early_clean b k))
-  answers_agree a b (Err (Stopped place fault)) (Err (Unexpected other end)) h k = absurd (no_both b other place end fault k h)
-  answers_agree a b (Err (Stopped place fault)) (Err (Stopped other also)) h k = ap Err (one_stopped place other fault also h k)
+  answers_agree a b (Err EndsEarly) (Err (Unexpected number last)) h k =
+      absurd (unexpected_barrier b number last k (length ts) k.first.within (early_clean a h))
+  answers_agree a b (Err EndsEarly) (Err (Stopped number fault)) h k =
+      absurd (stopped_barrier number fault k (length ts) k.within (early_clean a h))
+  answers_agree a b (Err (Unexpected number last)) (Err Memory) h k = tt
+  answers_agree a b (Err (Unexpected number last)) (Ok also) h k =
+      absurd (unexpected_barrier a number last h (length ts) h.first.within (accepted_clean b k))
+  answers_agree a b (Err (Unexpected number last)) (Err EndsEarly) h k =
+      absurd (unexpected_barrier a number last h (length ts) h.first.within (early_clean b k))
+  answers_agree a b (Err (Unexpected number last)) (Err (Unexpected other end)) h k =
+      ap Err (one_unexpected a b number other last end h k)
+  answers_agree a b (Err (Unexpected number last)) (Err (Stopped other fault)) h k = absurd (no_both a number other last fault h k)
+  answers_agree a b (Err (Stopped number fault)) (Err Memory) h k = tt
+  answers_agree a b (Err (Stopped number fault)) (Ok also) h k =
+      absurd (stopped_barrier number fault h (length ts) h.within (accepted_clean b k))
+  answers_agree a b (Err (Stopped number fault)) (Err EndsEarly) h k =
+      absurd (stopped_barrier number fault h (length ts) h.within (early_clean b k))
+  answers_agree a b (Err (Stopped number fault)) (Err (Unexpected other end)) h k = absurd (no_both b other number end fault k h)
+  answers_agree a b (Err (Stopped number fault)) (Err (Stopped other also)) h k = ap Err (one_stopped number other fault also h k)
 
 module _ {P T : Type 0} (g : Grammar P T) (start : P) where
   pub text_begins : (ts : List T) → IsText g start ts → BeginsText g start ts

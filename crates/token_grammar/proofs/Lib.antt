@@ -3,9 +3,12 @@ pub mod Leaves
 pub mod Spelling
 pub mod Reading
 pub mod Moving
-pub mod Decided
+pub mod Acting
+pub mod Built
 pub mod Agreement
 pub mod Answered
 pub mod Translated
 pub mod OfValues
 pub mod OneValue
+pub mod Telling
+pub mod Laws

@@ -1,61 +1,67 @@
--- Each text has a value, and no more than one.
-use Rattle.std.proofs.Common.{◌≡◌, refl, sym, ◌∙◌, ap, subst, inl, inr, List, [], ◌∷◌, ◌++◌, append-nil}
-use Rattle.token_grammar.specs.Grammar.{Grammar, Spelled}
+-- Each text has a value, and what a value spells is a text.
+use Rattle.std.proofs.Common.{◌≡◌, refl, sym, ◌∙◌, subst, inl, inr, List, [], ◌∷◌, ◌++◌, append-nil}
 use Rattle.text_core.specs.Lists.{IsAmong}
-use Rattle.token_grammar.specs.Values.{Place, element, RowValues, SpellsRow, Making, IsSpelling}
+use Rattle.token_grammar.specs.Grammar.{Grammar, Spelled}
+use Rattle.token_grammar.specs.Making.{Choice, element, RowValues, Making}
+use Rattle.token_grammar.specs.SpelledAs.{SpelledAs, SpelledRow}
+use Rattle.token_grammar.specs.SpelledAs.SpelledAs.{of_token, of_row}
+use Rattle.token_grammar.specs.SpelledAs.SpelledRow.{none, member}
+use Rattle.token_grammar.proofs.Spelling.{join_spelled}
 
-pub place_among : {A : Type 0} (list : List A) (a : A) → IsAmong a list → (place : Place list) × (element list place ≡ a)
-place_among [] a h = absurd h
-place_among (b ∷ list) a (inl e) = (inl tt, e)
-place_among (b ∷ list) a (inr h) = let (place, e) = place_among list a h in (inr place, e)
+pub choice_among : {A : Type 0} (list : List A) (a : A) → IsAmong a list → (choice : Choice list) × (element list choice ≡ a)
+choice_among [] a h = absurd h
+choice_among (b ∷ list) a (inl e) = (inl tt, e)
+choice_among (b ∷ list) a (inr h) = let (choice, e) = choice_among list a h in (inr choice, e)
 
-pub element_among : {A : Type 0} (list : List A) (place : Place list) → IsAmong (element list place) list
-element_among [] place = place
+pub element_among : {A : Type 0} (list : List A) (choice : Choice list) → IsAmong (element list choice) list
+element_among [] choice = choice
 element_among (a ∷ list) (inl here) = inl refl
-element_among (a ∷ list) (inr place) = inr (element_among list place)
+element_among (a ∷ list) (inr choice) = inr (element_among list choice)
 
--- for the laws of a grammar's values: a part spells what one of its alternatives spells
-pub spelled_part : {P T : Type 0} (g : Grammar P T) (p : P) (place : Place (g.alternatives p)) (ts : List T) →
-    Spelled g (element (g.alternatives p) place) ts → Spelled g (p ∷ []) ts
-spelled_part g p place ts inner =
-    Spelled.part (element (g.alternatives p) place) ts [] (element_among (g.alternatives p) place) inner Spelled.none (sym (append-nil ts))
-
-module _ {P T : Type 0} (Value : P → Type 0) (spells : (p : P) → Value p → List T → Type 0) where
+module _ {P T : Type 0} (g : Grammar P T) (Value : P → Type 0) (making : Making g Value) where
   -- a row's first member and the others, each with what they spell
-  pub first_spells : (p : P) (row : List P) (values : RowValues Value (p ∷ row)) (ts : List T) →
-      SpellsRow Value spells (p ∷ row) values ts →
-      (us : List T) × (rest : List T) × spells p values.0 us × SpellsRow Value spells row values.1 rest × (ts ≡ us ++ rest)
-  first_spells p [] values ts s = (ts, [], s, refl, sym (append-nil ts))
-  first_spells p (q ∷ row) values ts s = s
+  pub first_spelled : (p : P) (row : List P) (values : RowValues Value (p ∷ row)) (all : List T) → SpelledRow g Value making (p ∷ row) values all →
+      (us : List T) × (ts : List T) × SpelledAs g Value making p values.0 us × SpelledRow g Value making row values.1 ts × (all ≡ us ++ ts)
+  first_spelled p row values all (member us ts first later e) = (us, ts, first, later, e)
 
-  pub row_spells : (p : P) (row : List P) (values : RowValues Value (p ∷ row)) (us rest ts : List T) → spells p values.0 us →
-      SpellsRow Value spells row values.1 rest → ts ≡ us ++ rest → SpellsRow Value spells (p ∷ row) values ts
-  row_spells p [] values us rest ts s none e =
-      subst (spells p values.0) (sym (e ∙ (ap (λ x. us ++ x) none ∙ append-nil us))) s
-  row_spells p (q ∷ row) values us rest ts s later e = (us, rest, s, later, e)
+  -- what a row of one member spells its value spells
+  pub spelled_alone : (p : P) (values : RowValues Value (p ∷ [])) (ts : List T) → SpelledRow g Value making (p ∷ []) values ts →
+      SpelledAs g Value making p values.0 ts
+  spelled_alone p values ts (member us [] first none e) = subst (SpelledAs g Value making p values.0) (sym (e ∙ append-nil us)) first
+  spelled_alone p values ts (member us (t ∷ rest) first later e) = elim later [ ]
 
-module _ {P T : Type 0} (g : Grammar P T) (Value : P → Type 0) (spells : (p : P) → Value p → List T → Type 0) (making : Making g Value)
-    (spelling : IsSpelling g Value spells making) where
-  -- the value that an alternative's values make
-  made_of : (p : P) (place : Place (g.alternatives p)) (row : List P) (ts : List T) → element (g.alternatives p) place ≡ row →
-      (values : RowValues Value row) × SpellsRow Value spells row values ts → (value : Value p) × spells p value ts
-  made_of p place row ts e found =
-      let (values, spelled) = subst (λ r. (values : RowValues Value r) × SpellsRow Value spells r values ts) (sym e) found in
-      (making.of_row p place values, spelling.row p place values ts spelled)
+  -- what a part spells as one of its alternatives has a value
+  made_of : (p : P) (row : List P) (ts : List T) → IsAmong row (g.alternatives p) →
+      (values : RowValues Value row) → SpelledRow g Value making row values ts → (value : Value p) × SpelledAs g Value making p value ts
+  made_of p row ts among values spelled =
+      let (choice, same) = choice_among (g.alternatives p) row among in
+      subst (λ r. (values : RowValues Value r) → SpelledRow g Value making r values ts → (value : Value p) × SpelledAs g Value making p value ts)
+      same (λ chosen made. (making.of_row p choice chosen, of_row choice chosen made refl)) values spelled
 
   -- what a row spells has a value for each member
-  pub row_values : {row : List P} {ts : List T} → Spelled g row ts → (values : RowValues Value row) × SpellsRow Value spells row values ts
-  row_values Spelled.none = (tt, refl)
-  row_values (Spelled.token {p = p} {row = row} {t = t} {ts = ts} taken rest) =
+  row_values : {row : List P} {ts : List T} → Spelled g row ts → (values : RowValues Value row) × SpelledRow g Value making row values ts
+  row_values Spelled.none = (tt, none)
+  row_values (Spelled.token {p = p} {t = t} {ts = ts} taken rest) =
       let (values, spelled) = row_values rest in
-      let all : RowValues Value (p ∷ row) = (making.of_token p t taken, values) in
-      (all, row_spells Value spells p row all (t ∷ []) ts (t ∷ ts) (spelling.token p t taken) spelled refl)
-  row_values (Spelled.part {p = p} {row = row} {all = whole} alternative us ts a first rest e) =
-      let (place, same) = place_among (g.alternatives p) alternative a in
-      let (value, front) = made_of p place alternative us same (row_values first) in
+      ((making.of_token p t taken, values), member (t ∷ []) ts (of_token t taken refl refl) spelled refl)
+  row_values (Spelled.part {p = p} alternative us ts a first rest e) =
+      let (inner, front) = row_values first in
+      let (value, whole) = made_of p alternative us a inner front in
       let (values, back) = row_values rest in
-      let all : RowValues Value (p ∷ row) = (value, values) in
-      (all, row_spells Value spells p row all us ts whole front back e)
+      ((value, values), member us ts whole back e)
 
-  pub part_value : (p : P) (ts : List T) → Spelled g (p ∷ []) ts → (value : Value p) × spells p value ts
-  part_value p ts spelled = let (values, s) = row_values spelled in (values.0, s)
+  pub part_value : (p : P) (ts : List T) → Spelled g (p ∷ []) ts → (value : Value p) × SpelledAs g Value making p value ts
+  part_value p ts spelled = let (values, s) = row_values spelled in (values.0, spelled_alone p values ts s)
+
+  mutual
+    -- what a value spells is spelled by its part
+    pub value_spelled : {p : P} {value : Value p} {ts : List T} → SpelledAs g Value making p value ts → Spelled g (p ∷ []) ts
+    value_spelled {p = p} (of_token t taken is e) = subst (Spelled g (p ∷ [])) (sym e) (Spelled.token taken Spelled.none)
+    value_spelled {p = p} {ts = ts} (of_row choice values made is) =
+        Spelled.part (element (g.alternatives p) choice) ts [] (element_among (g.alternatives p) choice) (row_spelled made) Spelled.none
+        (sym (append-nil ts))
+
+    pub row_spelled : {row : List P} {values : RowValues Value row} {ts : List T} → SpelledRow g Value making row values ts → Spelled g row ts
+    row_spelled none = Spelled.none
+    row_spelled {row = p ∷ row} (member us ts first later e) =
+        subst (Spelled g (p ∷ row)) (sym e) (join_spelled g (value_spelled first) (row_spelled later))

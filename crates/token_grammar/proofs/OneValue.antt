@@ -9,37 +9,40 @@ use Rattle.text_core.specs.Lists.{IsAmong}
 use Rattle.token_grammar.specs.Taken.{Taken}
 use Rattle.token_grammar.specs.Taken.Taken.{stop, token, part}
 use Rattle.token_grammar.specs.Plan.{Plan, IsPredictive, is_first, one_less, is_empty, has_empty, all_nullable, rows_pass, asks, choice_passes, follow_passes}
-use Rattle.token_grammar.specs.Values.{Place, element, RowValues, SpellsRow, Making, IsSpelling}
+use Rattle.token_grammar.specs.Making.{Choice, element, RowValues, Making}
+use Rattle.token_grammar.specs.SpelledAs.{SpelledAs, SpelledRow}
+use Rattle.token_grammar.specs.SpelledAs.SpelledAs.{of_token, of_row}
+use Rattle.token_grammar.specs.SpelledAs.SpelledRow.{member}
 use Rattle.token_grammar.proofs.Predicted.{Safe, implied, takes_alone, choices_pass, asks_taken, predicted_taken, safe_replaced, no_nullable, taken_nullable}
 use Rattle.token_grammar.proofs.Leaves.{leaves_start}
 use Rattle.token_grammar.proofs.Spelling.{joined, join_spelled, taken_spelled}
-use Rattle.token_grammar.proofs.OfValues.{place_among, element_among, first_spells}
+use Rattle.token_grammar.proofs.OfValues.{choice_among, element_among, first_spelled, value_spelled, row_spelled}
 
 none_after_first : (number : Option ℕ) → is_first number ≡ true → one_less number ≡ None
 none_after_first None h = refl
 none_after_first (Some zero) h = refl
 none_after_first (Some (suc n)) h = absurd (false≢true h)
 
-place_empty : {A : Type 0} (rows : List (List A)) (place : Place rows) → is_empty (element rows place) ≡ true → has_empty rows ≡ true
-place_empty [] place h = absurd place
-place_empty (row ∷ rows) (inl here) h = or_left _ _ h
-place_empty (row ∷ rows) (inr place) h = or_right _ _ (place_empty rows place h)
+choice_empty : {A : Type 0} (rows : List (List A)) (choice : Choice rows) → is_empty (element rows choice) ≡ true → has_empty rows ≡ true
+choice_empty [] choice h = absurd choice
+choice_empty (row ∷ rows) (inl here) h = or_left _ _ h
+choice_empty (row ∷ rows) (inr choice) h = or_right _ _ (choice_empty rows choice h)
 
 no_tokens_left : {A : Type 0} (xs ys : List A) → xs ++ ys ≡ [] → xs ≡ []
 no_tokens_left [] ys e = refl
 no_tokens_left (x ∷ xs) ys e = cc
 
 module _ {P T : Type 0} (g : Grammar P T) (plan : Plan P T) where
-  none_asks : (p : P) (t : T) (rows : List (List P)) → choice_passes g plan p t None rows ≡ true → (place : Place rows) →
-      asks g plan p t (element rows place) ≡ true → ⊥
-  none_asks p t [] h place asked = place
+  none_asks : (p : P) (t : T) (rows : List (List P)) → choice_passes g plan p t None rows ≡ true → (choice : Choice rows) →
+      asks g plan p t (element rows choice) ≡ true → ⊥
+  none_asks p t [] h choice asked = choice
   none_asks p t (row ∷ rows) h (inl here) asked = both_ways _ (not-true _ (and_parts _ _ h).0) asked
-  none_asks p t (row ∷ rows) h (inr place) asked =
-      none_asks p t rows (and_parts (follow_passes g plan p t row) _ (and_parts _ _ h).1).1 place asked
+  none_asks p t (row ∷ rows) h (inr choice) asked =
+      none_asks p t rows (and_parts (follow_passes g plan p t row) _ (and_parts _ _ h).1).1 choice asked
 
   -- a token asks for one alternative at most
   asked_once : (p : P) (t : T) (number : Option ℕ) (rows : List (List P)) → choice_passes g plan p t number rows ≡ true →
-      (i j : Place rows) → asks g plan p t (element rows i) ≡ true → asks g plan p t (element rows j) ≡ true → i ≡ j
+      (i j : Choice rows) → asks g plan p t (element rows i) ≡ true → asks g plan p t (element rows j) ≡ true → i ≡ j
   asked_once p t number [] h i j first second = absurd i
   asked_once p t number (row ∷ rows) h (inl here) (inl there) first second = refl
   asked_once p t number (row ∷ rows) h (inl here) (inr j) first second =
@@ -62,14 +65,14 @@ module _ {P T : Type 0} (g : Grammar P T) (plan : Plan P T) where
   one_empty (q ∷ row) rows h e = absurd (false≢true e)
 
   -- one alternative at most is empty
-  empty_once : (most : ℕ) (rows : List (List P)) → rows_pass g plan most rows ≡ true → (i j : Place rows) →
+  empty_once : (most : ℕ) (rows : List (List P)) → rows_pass g plan most rows ≡ true → (i j : Choice rows) →
       is_empty (element rows i) ≡ true → is_empty (element rows j) ≡ true → i ≡ j
   empty_once most [] h i j first second = absurd i
   empty_once most (row ∷ rows) h (inl here) (inl there) first second = refl
   empty_once most (row ∷ rows) h (inl here) (inr j) first second =
-      absurd (both_ways _ (one_empty row rows (and_parts _ _ h).0 first) (place_empty rows j second))
+      absurd (both_ways _ (one_empty row rows (and_parts _ _ h).0 first) (choice_empty rows j second))
   empty_once most (row ∷ rows) h (inr i) (inl there) first second =
-      absurd (both_ways _ (one_empty row rows (and_parts _ _ h).0 second) (place_empty rows i first))
+      absurd (both_ways _ (one_empty row rows (and_parts _ _ h).0 second) (choice_empty rows i first))
   empty_once most (row ∷ rows) h (inr i) (inr j) first second =
       ap inr (empty_once most rows (and_parts _ _ (and_parts _ _ h).1).1 i j first second)
 
@@ -127,10 +130,10 @@ module _ {P T : Type 0} (g : Grammar P T) (plan : Plan P T) (law : IsPredictive 
   nullable_empty p [] a h = refl
   nullable_empty p (q ∷ row) a h = absurd (both_ways _ (no_nullable g plan law p q row a) h)
 
-  -- the place of the alternative is settled by the tokens that it spells and those that stand after it
-  same_place : (p : P) (row : List P) (i j : Place (g.alternatives p)) (us later : List T) → Safe g plan (p ∷ row) →
+  -- the choice of the alternative is settled by the tokens that it spells and those that stand after it
+  same_choice : (p : P) (row : List P) (i j : Choice (g.alternatives p)) (us later : List T) → Safe g plan (p ∷ row) →
       Spelled g (element (g.alternatives p) i) us → Spelled g (element (g.alternatives p) j) us → Spelled g row later → i ≡ j
-  same_place p row i j us later safe first second below =
+  same_choice p row i j us later safe first second below =
       let (ps, d) = taken_spelled g first in
       let (qs, e) = taken_spelled g second in
       let (rs, f) = taken_spelled g below in
@@ -158,70 +161,58 @@ module _ {P T : Type 0} (g : Grammar P T) (plan : Plan P T) (law : IsPredictive 
           (nullable_empty p (element (g.alternatives p) j) b (taken_nullable g plan law e'))
       by_tokens (t ∷ us) later ps qs ps' qs' d e d' e' = at_token t (us ++ later) ps qs d e
 
-module _ {P T : Type 0} (g : Grammar P T) (plan : Plan P T) (law : IsPredictive g plan) (Value : P → Type 0)
-    (spells : (p : P) → Value p → List T → Type 0) (making : Making g Value) (spelling : IsSpelling g Value spells making) where
-  row_spelled : (row : List P) (values : RowValues Value row) (ts : List T) → SpellsRow Value spells row values ts → Spelled g row ts
-  row_spelled [] values ts e = subst (Spelled g []) (sym e) Spelled.none
-  row_spelled (p ∷ row) values ts s =
-      let (us, rest, first, later, e) = first_spells Value spells p row values ts s in
-      subst (Spelled g (p ∷ row)) (sym e) (join_spelled g (spelling.spelled p values.0 us first) (row_spelled row values.1 rest later))
-
+module _ {P T : Type 0} (g : Grammar P T) (plan : Plan P T) (law : IsPredictive g plan) (Value : P → Type 0) (making : Making g Value) where
   -- values of a part and a row spell the tokens that the part and the row spell
   aligned : (p : P) (row : List P) (us ts all : List T) → Spelled g (p ∷ []) us → Spelled g row ts → all ≡ us ++ ts →
       (below : List P) (later : List T) → Safe g plan (p ∷ (row ++ below)) → Spelled g below later →
-      (values : RowValues Value (p ∷ row)) → SpellsRow Value spells (p ∷ row) values all →
-      spells p values.0 us × SpellsRow Value spells row values.1 ts
+      (values : RowValues Value (p ∷ row)) → SpelledRow g Value making (p ∷ row) values all →
+      SpelledAs g Value making p values.0 us × SpelledRow g Value making row values.1 ts
   aligned p row us ts all first second split below later safe end values spelled =
-      let (us', ts', s, k, e) = first_spells Value spells p row values all spelled in
+      let (us', ts', s, k, e) = first_spelled g Value making p row values all spelled in
       let (ps, d) = taken_spelled g first in
-      let (ps', d') = taken_spelled g (spelling.spelled p values.0 us' s) in
+      let (ps', d') = taken_spelled g (value_spelled g Value making s) in
       let (qs, f) = taken_spelled g (join_spelled g second end) in
-      let (qs', f') = taken_spelled g (join_spelled g (row_spelled row values.1 ts' k) end) in
+      let (qs', f') = taken_spelled g (join_spelled g (row_spelled g Value making k) end) in
       let whole : us' ++ (ts' ++ later) ≡ us ++ (ts ++ later) =
       sym (append_assoc us' ts' later) ∙ (ap (λ x. x ++ later) (sym e ∙ split) ∙ append_assoc us ts later) in
       let same = split_once g plan law d' (row ++ below) (ts' ++ later) qs' safe f' us (ts ++ later) ps qs d f whole in
       let rest = append_cancel_left us ts' ts (ap (λ x. x ++ ts') (sym same) ∙ (sym e ∙ split)) in
-      (subst (spells p values.0) same s, subst (SpellsRow Value spells row values.1) rest k)
+      (subst (SpelledAs g Value making p values.0) same s, subst (SpelledRow g Value making row values.1) rest k)
 
-  token_value : (p : P) (t : T) (taken : g.takes p t ≡ true) (value : Value p) → spells p value (t ∷ []) → value ≡ making.of_token p t taken
-  token_value p t taken value s = elim (spelling.made p value (t ∷ []) s) [
-    | inl found ↦ let (u, taken', e, is) = found in
-        let one : t ≡ u = cc in
-        is ∙ sym (subst (λ x. (k : g.takes p x ≡ true) → making.of_token p t taken ≡ making.of_token p x k) one
-        (λ k. ap (making.of_token p t) (Bool-set _ _ taken k)) taken')
-    | inr found ↦ let (place, values, k, is) = found in
-        absurd (takes_alone g plan law p t (element (g.alternatives p) place) taken (element_among (g.alternatives p) place))
-  ]
+  token_value : (p : P) (t : T) (taken : g.takes p t ≡ true) (value : Value p) → SpelledAs g Value making p value (t ∷ []) → value ≡ making.of_token p t taken
+  token_value p t taken value (of_token u taken' is e) =
+      let one : t ≡ u = cc in
+      is ∙ sym (subst (λ x. (k : g.takes p x ≡ true) → making.of_token p t taken ≡ making.of_token p x k) one
+      (λ k. ap (making.of_token p t) (Bool-set _ _ taken k)) taken')
+  token_value p t taken value (of_row choice values made is) =
+      absurd (takes_alone g plan law p t (element (g.alternatives p) choice) taken (element_among (g.alternatives p) choice))
 
-  MadeAt : (p : P) → Place (g.alternatives p) → Value p → List T → Type 0
-  MadeAt p place value us = (values : RowValues Value (element (g.alternatives p) place)) ×
-      SpellsRow Value spells (element (g.alternatives p) place) values us × (value ≡ making.of_row p place values)
+  MadeAt : (p : P) → Choice (g.alternatives p) → Value p → List T → Type 0
+  MadeAt p choice value us = (values : RowValues Value (element (g.alternatives p) choice)) ×
+      SpelledRow g Value making (element (g.alternatives p) choice) values us × (value ≡ making.of_row p choice values)
 
-  made_at : (p : P) (row : List P) (place : Place (g.alternatives p)) (us later : List T) → Safe g plan (p ∷ row) →
-      Spelled g (element (g.alternatives p) place) us → Spelled g row later → (value : Value p) → spells p value us →
-      MadeAt p place value us
+  made_at : (p : P) (row : List P) (choice : Choice (g.alternatives p)) (us later : List T) → Safe g plan (p ∷ row) →
+      Spelled g (element (g.alternatives p) choice) us → Spelled g row later → (value : Value p) → SpelledAs g Value making p value us →
+      MadeAt p choice value us
   unfolding MadeAt
-  made_at p row place us later safe first end value s = elim (spelling.made p value us s) [
-    | inl found ↦ let (u, taken, e, is) = found in
-        absurd (takes_alone g plan law p u (element (g.alternatives p) place) taken (element_among (g.alternatives p) place))
-    | inr found ↦ let (other, values, k, is) = found in
-        let same = same_place g plan law p row other place us later safe
-        (row_spelled (element (g.alternatives p) other) values us k) first end in
-        subst (λ i. MadeAt p i value us) same (values, k, is)
-  ]
+  made_at p row choice us later safe first end value (of_token u taken is e) =
+      absurd (takes_alone g plan law p u (element (g.alternatives p) choice) taken (element_among (g.alternatives p) choice))
+  made_at p row choice us later safe first end value (of_row other values made is) =
+      let same = same_choice g plan law p row other choice us later safe (row_spelled g Value making made) first end in
+      subst (λ i. MadeAt p i value us) same (values, made, is)
 
   OneRow : List P → List T → Type 0
-  OneRow row ts = (first second : RowValues Value row) → SpellsRow Value spells row first ts → SpellsRow Value spells row second ts →
+  OneRow row ts = (first second : RowValues Value row) → SpelledRow g Value making row first ts → SpelledRow g Value making row second ts →
       first ≡ second
 
-  one_part : (p : P) (row : List P) (place : Place (g.alternatives p)) (us later : List T) → Safe g plan (p ∷ row) →
-      Spelled g (element (g.alternatives p) place) us → Spelled g row later → OneRow (element (g.alternatives p) place) us →
-      (first second : Value p) → spells p first us → spells p second us → first ≡ second
+  one_part : (p : P) (row : List P) (choice : Choice (g.alternatives p)) (us later : List T) → Safe g plan (p ∷ row) →
+      Spelled g (element (g.alternatives p) choice) us → Spelled g row later → OneRow (element (g.alternatives p) choice) us →
+      (first second : Value p) → SpelledAs g Value making p first us → SpelledAs g Value making p second us → first ≡ second
   unfolding MadeAt OneRow
-  one_part p row place us later safe spelled end one first second s r =
-      let (values, k, is) = made_at p row place us later safe spelled end first s in
-      let (others, l, also) = made_at p row place us later safe spelled end second r in
-      (is ∙ ap (making.of_row p place) (one values others k l)) ∙ sym also
+  one_part p row choice us later safe spelled end one first second s r =
+      let (values, k, is) = made_at p row choice us later safe spelled end first s in
+      let (others, l, also) = made_at p row choice us later safe spelled end second r in
+      (is ∙ ap (making.of_row p choice) (one values others k l)) ∙ sym also
 
   pairs : (p : P) (row : List P) (first second : RowValues Value (p ∷ row)) → first.0 ≡ second.0 → first.1 ≡ second.1 → first ≡ second
   pairs p row first second e f = λ i. (e i, f i)
@@ -240,16 +231,26 @@ module _ {P T : Type 0} (g : Grammar P T) (plan : Plan P T) (law : IsPredictive 
       let one = Spelled.part alternative us [] a inner Spelled.none (sym (append-nil us)) in
       let (s, tail) = aligned p row us ts all one rest e below later safe end first k in
       let (r, tail') = aligned p row us ts all one rest e below later safe end second l in
-      let (place, same) = place_among (g.alternatives p) alternative a in
+      let (choice, same) = choice_among (g.alternatives p) alternative a in
       let after = join_spelled g rest end in
       let inside = one_row inner (row ++ below) (ts ++ later) (safe_replaced g plan law p (row ++ below) alternative a safe) after in
       pairs p row first second
-      (one_part p (row ++ below) place us (ts ++ later) safe (subst (λ x. Spelled g x us) (sym same) inner) after
+      (one_part p (row ++ below) choice us (ts ++ later) safe (subst (λ x. Spelled g x us) (sym same) inner) after
       (subst (λ x. OneRow x us) (sym same) inside) first.0 second.0 s r)
       (one_row rest below later safe.1 end first.1 second.1 tail tail')
 
-  pub one_value : (p : P) (ts : List T) (first second : Value p) → spells p first ts → spells p second ts → first ≡ second
+  pub one_value : (p : P) (ts : List T) (first second : Value p) → SpelledAs g Value making p first ts → SpelledAs g Value making p second ts → first ≡ second
   unfolding OneRow
   one_value p ts first second s r =
       ap (λ (pair : RowValues Value (p ∷ [])). pair.0)
-      (one_row (spelling.spelled p first ts s) [] [] (leaves_start g plan law p).safe Spelled.none (first, tt) (second, tt) s r)
+      (one_row (value_spelled g Value making s) [] [] (leaves_start g plan law p).safe Spelled.none (first, tt) (second, tt) (alone s) (alone r))
+    where
+      alone : {value : Value p} → SpelledAs g Value making p value ts → SpelledRow g Value making (p ∷ []) (value, tt) ts
+      alone spelled = member ts [] spelled SpelledRow.none (sym (append-nil ts))
+
+-- the same where the values are made over a grammar that is equal
+pub one_value_of : {P T : Type 0} (g : Grammar P T) (plan : Plan P T) → IsPredictive g plan → (h : Grammar P T) → g ≡ h →
+    (Value : P → Type 0) (making : Making h Value) (p : P) (ts : List T) (first second : Value p) →
+    SpelledAs h Value making p first ts → SpelledAs h Value making p second ts → first ≡ second
+one_value_of g plan law h same Value making p ts first second =
+    one_value h plan (subst (λ x. IsPredictive x plan) same law) Value making p ts first second

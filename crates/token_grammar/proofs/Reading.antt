@@ -1,4 +1,4 @@
--- How far the machine has come: the tokens before a place are taken and seen, and a row is left on the stack.
+-- How far the machine has come: the tokens before one are taken and seen, and a row is left on the stack.
 use Rattle.std.proofs.Common.{◌≡◌, refl, sym, ◌∙◌, ap, subst, ℕ, zero, suc, ◌+◌, ◌≤◌, arith, Bool, true, false, ◌&&◌, List, [], ◌∷◌, ◌++◌, take, length, reverse, add-one}
 use Rattle.std.specs.Prelude.{Option, Some, None, slice_get}
 use Rattle.std.specs.List.{list_all}
@@ -31,7 +31,7 @@ take-next [] n a h = cc
 take-next (x ∷ xs) zero a h = ap (λ o. o ∷ []) (let same : x ≡ a = cc in same)
 take-next (x ∷ xs) (suc n) a h = rw (add-one) (ap (λ ys. x ∷ ys) (rw add-one at (take-next xs n a h)))
 
-list_all-append : {A : Type 0} (test : A → Bool) (xs : List A) (a : A) → list_all test (xs ++ (a ∷ [])) ≡ (test a && list_all test xs)
+pub list_all-append : {A : Type 0} (test : A → Bool) (xs : List A) (a : A) → list_all test (xs ++ (a ∷ [])) ≡ (test a && list_all test xs)
 list_all-append test [] a = refl
 list_all-append test (x ∷ xs) a = rw (list_all-append test xs a) (swapped (test x) (test a) (list_all test xs))
   where
@@ -85,33 +85,33 @@ module _ {P T S F : Type 0} (g : Grammar P T) (plan : Plan P T) (watcher : Watch
       IsClean g watcher false start before us r.takers now
   clean us row now last r = record { taken = leaves_begun g plan law start us r.takers row r.leaves; seen = r.seen }
 
-  pub reading_unexpected : (ts : List T) (place : ℕ) (row after : List P) (now : S) (last : Option P) (t : T) →
-      slice_get ts place ≡ Some t → Reading g plan watcher start before (take place ts) row now last → Moves g plan t row after None →
-      IsUnexpected g watcher start before ts now place last
-  reading_unexpected ts place row after now last t at r (stuck, expanded, blocked) =
-      let us = take place ts in
+  pub reading_unexpected : (ts : List T) (number : ℕ) (row after : List P) (now : S) (last : Option P) (t : T) →
+      slice_get ts number ≡ Some t → Reading g plan watcher start before (take number ts) row now last → Moves g plan t row after None →
+      IsUnexpected g watcher start before ts now number last
+  reading_unexpected ts number row after now last t at r (stuck, expanded, blocked) =
+      let us = take number ts in
       let at_t = leaves_expanded g plan law start us t r.takers expanded (leaves_at g plan law start us t r.takers row r.leaves) in
       record {
         first = record {
-          within = slice_get_within ts place t at;
+          within = slice_get_within ts number t at;
           begins = begun_taken g (leaves_begun g plan law start us r.takers row r.leaves);
-          refused = λ begun. let (takers, taken) = taken_begun g (rw (take-next ts place t at) at begun) in
+          refused = λ begun. let (takers, taken) = taken_begun g (rw (take-next ts number t at) at begun) in
               leaves_refused g plan law start us t r.takers stuck takers blocked at_t taken;
         };
         clean = (r.takers, clean us row now last r, r.ending);
       }
 
-  pub reading_stopped : (ts : List T) (place : ℕ) (row after : List P) (now : S) (last : Option P) (t : T) (p : P) (fault : F) →
-      slice_get ts place ≡ Some t → Reading g plan watcher start before (take place ts) row now last →
-      Moves g plan t row after (Some p) → watcher.faults now p t fault → IsStopped g watcher start before ts place fault
-  reading_stopped ts place row after now last t p fault at r (expanded, takes) h =
-      let us = take place ts in
+  pub reading_stopped : (ts : List T) (number : ℕ) (row after : List P) (now : S) (last : Option P) (t : T) (p : P) (fault : F) →
+      slice_get ts number ≡ Some t → Reading g plan watcher start before (take number ts) row now last →
+      Moves g plan t row after (Some p) → watcher.faults now p t fault → IsStopped g watcher start before ts number fault
+  reading_stopped ts number row after now last t p fault at r (expanded, takes) h =
+      let us = take number ts in
       let at_p = leaves_expanded g plan law start us t r.takers expanded (leaves_at g plan law start us t r.takers row r.leaves) in
       let next = leaves_taken g plan law start us t r.takers p after takes at_p in
       let taken = leaves_begun g plan law start (us ++ (t ∷ [])) (r.takers ++ (p ∷ [])) after next in
       record {
-        within = slice_get_within ts place t at;
-        begins = rw (take-next ts place t at) (begun_taken g taken);
+        within = slice_get_within ts number t at;
+        begins = rw (take-next ts number t at) (begun_taken g taken);
         found = (r.takers, now, p, t, at, clean us row now last r, taken, h);
       }
 
@@ -121,11 +121,11 @@ module _ {P T S F : Type 0} (g : Grammar P T) (plan : Plan P T) (watcher : Watch
       let taken = leaves_ended g plan law start ts r.takers row empty r.leaves in
       record { text = spelled_taken g taken; clean = (r.takers, record { taken = taken; seen = r.seen }) }
 
-  pub reading_accepted : (ts : List T) (place : ℕ) (stack : List P) (now : S) (last : Option P) → length ts ≤ place →
-      list_all (is_nullable g) stack ≡ true → Reading g plan watcher start before (take place ts) (reverse stack) now last →
+  pub reading_accepted : (ts : List T) (number : ℕ) (stack : List P) (now : S) (last : Option P) → length ts ≤ number →
+      list_all (is_nullable g) stack ≡ true → Reading g plan watcher start before (take number ts) (reverse stack) now last →
       IsAccepted g watcher start before ts now
-  reading_accepted ts place stack now last end empty r =
-      accepted ts (reverse stack) now last (nullable-reverse g stack ∙ empty) (rw (all_taken ts place end) at r)
+  reading_accepted ts number stack now last end empty r =
+      accepted ts (reverse stack) now last (nullable-reverse g stack ∙ empty) (rw (all_taken ts number end) at r)
 
   ended : (ts : List T) (row : List P) (now : S) (last : Option P) → all_nullable g row ≡ false →
       Reading g plan watcher start before ts row now last → IsEarlyEnd g watcher start before ts now
@@ -138,8 +138,8 @@ module _ {P T S F : Type 0} (g : Grammar P T) (plan : Plan P T) (watcher : Watch
     clean = (r.takers, clean ts row now last r);
   }
 
-  pub reading_ended : (ts : List T) (place : ℕ) (stack : List P) (now : S) (last : Option P) → length ts ≤ place →
-      list_all (is_nullable g) stack ≡ false → Reading g plan watcher start before (take place ts) (reverse stack) now last →
+  pub reading_ended : (ts : List T) (number : ℕ) (stack : List P) (now : S) (last : Option P) → length ts ≤ number →
+      list_all (is_nullable g) stack ≡ false → Reading g plan watcher start before (take number ts) (reverse stack) now last →
       IsEarlyEnd g watcher start before ts now
-  reading_ended ts place stack now last end filled r =
-      ended ts (reverse stack) now last (nullable-reverse g stack ∙ filled) (rw (all_taken ts place end) at r)
+  reading_ended ts number stack now last end filled r =
+      ended ts (reverse stack) now last (nullable-reverse g stack ∙ filled) (rw (all_taken ts number end) at r)

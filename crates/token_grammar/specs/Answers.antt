@@ -25,31 +25,31 @@ pub record IsAccepted {P T S F : Type 0} (g : Grammar P T) (watcher : Watcher P 
   pub text : IsText g start ts
   pub clean : (takers : List P) × IsClean g watcher true start before ts takers after
 
--- the tokens before the place begin a text, and with the one there they begin none
-pub record IsRefusedAt {P T : Type 0} (g : Grammar P T) (start : P) (ts : List T) (place : ℕ) : Type 0 where
-  pub within : place < length ts
-  pub begins : BeginsText g start (take place ts)
-  pub refused : BeginsText g start (take (place + 1) ts) → ⊥
+-- the tokens before the one of this number begin a text, and with it they begin none
+pub record IsRefusedAt {P T : Type 0} (g : Grammar P T) (start : P) (ts : List T) (number : ℕ) : Type 0 where
+  pub within : number < length ts
+  pub begins : BeginsText g start (take number ts)
+  pub refused : BeginsText g start (take (number + 1) ts) → ⊥
 
 -- all tokens begin a text and are none
 pub record IsUnfinished {P T : Type 0} (g : Grammar P T) (start : P) (ts : List T) : Type 0 where
   pub begins : BeginsText g start ts
   pub no_text : IsText g start ts → ⊥
 
--- the token at the place is the first with which the tokens begin no text; before it the watcher found no fault
+-- the token of this number is the first with which the tokens begin no text; before it the watcher found no fault
 pub record IsUnexpected {P T S F : Type 0} (g : Grammar P T) (watcher : Watcher P T S F) (start : P) (before : S) (ts : List T)
-    (after : S) (place : ℕ) (last : Option P) : Type 0 where
-  pub first : IsRefusedAt g start ts place
-  pub clean : (takers : List P) × IsClean g watcher false start before (take place ts) takers after × last ≡ last_of takers
+    (after : S) (number : ℕ) (last : Option P) : Type 0 where
+  pub first : IsRefusedAt g start ts number
+  pub clean : (takers : List P) × IsClean g watcher false start before (take number ts) takers after × last ≡ last_of takers
 
--- the tokens up to and with the one at the place begin a text, and the watcher finds its first fault there
+-- the tokens up to and with the one of this number begin a text, and the watcher finds its first fault there
 pub record IsStopped {P T S F : Type 0} (g : Grammar P T) (watcher : Watcher P T S F) (start : P) (before : S) (ts : List T)
-    (place : ℕ) (fault : F) : Type 0 where
-  pub within : place < length ts
-  pub begins : BeginsText g start (take (place + 1) ts)
-  pub found : (takers : List P) × (between : S) × (taker : P) × (token : T) × slice_get ts place ≡ Some token ×
-      IsClean g watcher false start before (take place ts) takers between ×
-      Taken g false (start ∷ []) (take place ts ++ (token ∷ [])) (takers ++ (taker ∷ [])) ×
+    (number : ℕ) (fault : F) : Type 0 where
+  pub within : number < length ts
+  pub begins : BeginsText g start (take (number + 1) ts)
+  pub found : (takers : List P) × (between : S) × (taker : P) × (token : T) × slice_get ts number ≡ Some token ×
+      IsClean g watcher false start before (take number ts) takers between ×
+      Taken g false (start ∷ []) (take number ts ++ (token ∷ [])) (takers ++ (taker ∷ [])) ×
       watcher.faults between taker token fault
 
 -- all tokens begin a text and are none, and the watcher found no fault
@@ -61,8 +61,8 @@ pub record IsEarlyEnd {P T S F : Type 0} (g : Grammar P T) (watcher : Watcher P 
 -- the refusal is the right one; want of memory may come in place of any
 abbrev pub IsRefused : {P T S F : Type 0} → Grammar P T → Watcher P T S F → P → S → List T → S → Refusal P F → Type 0
 IsRefused g watcher start before ts after Memory = Unit {0}
-IsRefused g watcher start before ts after (Unexpected place last) = IsUnexpected g watcher start before ts after place last
-IsRefused g watcher start before ts after (Stopped place fault) = IsStopped g watcher start before ts place fault
+IsRefused g watcher start before ts after (Unexpected number last) = IsUnexpected g watcher start before ts after number last
+IsRefused g watcher start before ts after (Stopped number fault) = IsStopped g watcher start before ts number fault
 IsRefused g watcher start before ts after EndsEarly = IsEarlyEnd g watcher start before ts after
 
 -- the machine's answer is the right one

@@ -2,8 +2,14 @@ pub mod Grammar
 pub mod Taken
 pub mod Watch
 pub mod Plan
+pub mod Computed
 pub mod Step
+pub mod Acting
 pub mod Answers
 pub mod Answered
 pub mod Factored
-pub mod Values
+pub mod Stacks
+pub mod Making
+pub mod Productions
+pub mod SpelledAs
+pub mod Building

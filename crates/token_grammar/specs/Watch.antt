@@ -20,10 +20,6 @@ pub record IsDecided {P T S F : Type 0} (watcher : Watcher P T S F) : Type 0 whe
   pub one_fault : (s : S) (p : P) (t : T) (e f : F) → watcher.faults s p t e → watcher.faults s p t f → e ≡ f
   pub apart : (s : S) (p : P) (t : T) (a : S) (f : F) → watcher.sees s p t a → watcher.faults s p t f → ⊥
 
--- a watcher that keeps nothing and finds no fault
-abbrev pub unwatched : {P T F : Type 0} → Watcher P T (Unit {0}) F
-unwatched = record { sees = λ before p t after. Unit {0}; faults = λ before p t fault. ⊥ }
-
 -- a watcher that computes what it does: a further state, or a fault
 abbrev pub watcher_of : {P T S F : Type 0} → (S → P → T → Result S F) → Watcher P T S F
 watcher_of look = record { sees = λ before p t after. look before p t ≡ Ok after; faults = λ before p t fault. look before p t ≡ Err fault }

@@ -1,5 +1,5 @@
-ghost use Rattle.std.specs.Prelude.{◌≡◌, ◌↔◌, List, [], ◌∷◌};
-ghost use Rattle.token_grammar.specs.Grammar.{Grammar, IsText, BeginsText};
+ghost use Rattle.std.specs.Prelude.{◌≡◌, List, [], ◌∷◌};
+ghost use Rattle.token_grammar.specs.Grammar.{Grammar};
 ghost use Rattle.token_grammar.specs.Factored.{Translates};
 
 /// A grammar as it is printed, and the factored one that the machine reads: each part of one stands for rows of the other.
@@ -30,9 +30,3 @@ pub trait Factored {
 
     ghost printed_start_made: { made printed_start ≡ (start ∷ []) ∷ [] };
 }
-
-/// The factored grammar spells and begins the same tokens as the printed one.
-pub fn factored_agrees<F: Factored>()
-    ensures texts { (ts : List F.Token) → IsText F.printed F.printed_start ts ↔ IsText F.grammar F.start ts }
-    ensures beginnings { (ts : List F.Token) → BeginsText F.printed F.printed_start ts ↔ BeginsText F.grammar F.start ts }
-{}

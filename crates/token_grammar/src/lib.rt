@@ -4,18 +4,27 @@
 //! at one token at a time, keeps one stack, and refuses at exactly the first token with which the tokens begin no text.
 #![tactic(auto)]
 
+mod builder;
 mod factored;
-mod laws;
+mod law;
 mod machine;
+mod nothing;
 mod part;
 mod refusal;
 mod source;
-mod valued;
+mod stack;
+mod told;
 
-pub use factored::{Factored, factored_agrees};
-pub use laws::{answers_agree, fronts_begin, takers_agree, texts_are_taken, tokens_have_answers};
-pub use machine::recognize;
+pub use builder::Builder;
+pub use factored::Factored;
+pub use law::{
+    answers_agree, factored_agrees, fronts_begin, seen_is_told, takers_agree, texts_are_taken,
+    texts_have_one_value, tokens_have_answers,
+};
+pub use machine::{build, recognize};
+pub use nothing::Nothing;
 pub use part::{Part, Step, expand};
 pub use refusal::Refusal;
 pub use source::Source;
-pub use valued::{Valued, texts_have_values, values_agree};
+pub use stack::Stack;
+pub use told::Told;

@@ -1,15 +1,15 @@
 use text_core::Memory;
 
-/// Why the tokens are no text. `P` is the grammar's part and `F` its watcher's fault; a place is a token's number from 0.
+/// Why the tokens are no text. `P` is the grammar's part and `F` its watcher's fault; a token's number counts from 0.
 #[derive(Debug, Drop)]
 pub enum Refusal<P, F> {
-    /// There was no memory for the stack or the watcher.
+    /// There was no memory for the stack, the watcher or the builder.
     Memory,
-    /// The tokens before the place begin a text, and with the token there they begin none. `last` is the part that took
-    /// the token before the place.
-    Unexpected { place: usize, last: Option<P> },
-    /// The tokens up to and with the one at the place begin a text, and the watcher finds its first fault there.
-    Stopped { place: usize, fault: F },
+    /// The tokens before the one of this number begin a text, and with it they begin none. `last` is the part that took the
+    /// token before it.
+    Unexpected { number: usize, last: Option<P> },
+    /// The tokens up to and with the one of this number begin a text, and the watcher finds its first fault there.
+    Stopped { number: usize, fault: F },
     /// All tokens begin a text, and are none.
     EndsEarly,
 }

@@ -1,27 +1,27 @@
 ghost use Rattle.std.specs.Prelude.{◌≡◌, ◌<◌, List, length, Some, slice_get};
 
-/// Tokens that are read by number, so that a grammar over kinds of tokens needs no list of kinds.
-pub trait Source<K> {
-    ghost kinds: { Self → List K };
+/// Tokens that are read by number, so that a grammar over marks needs no list of marks. `M` is what the grammar sees of a token.
+pub trait Source<M> {
+    ghost marks: { Self → List M };
 
     /// How many tokens there are.
     fn count(&self) -> usize
-        ensures { result ≡ length (kinds self.now) };
+        ensures { result ≡ length (marks self.now) };
 
-    /// The token of this number, from 0.
-    fn kind(&self, at: usize) -> K
-        requires { at < length (kinds self.now) }
-        ensures { slice_get (kinds self.now) at ≡ Some result };
+    /// The mark of the token of this number, from 0.
+    fn mark(&self, number: usize) -> M
+        requires { number < length (marks self.now) }
+        ensures { slice_get (marks self.now) number ≡ Some result };
 }
 
-impl<K: Copy> Source<K> for Vec<K> {
-    ghost kinds = { λ v. v.items };
+impl<M: Copy> Source<M> for Vec<M> {
+    ghost marks = { λ v. v.items };
 
     fn count(&self) -> usize {
         self.len()
     }
 
-    fn kind(&self, at: usize) -> K {
-        self[at]
+    fn mark(&self, number: usize) -> M {
+        self[number]
     }
 }

@@ -1,8 +1,8 @@
-pub mod Expression
-pub mod ExpressionLaw
-pub mod Printed
-pub mod PrintedLaw
-pub mod Meaning
-pub mod MeaningLaw
-pub mod Outline
-pub mod OutlineLaw
+pub mod Grammar
+pub mod GrammarLaw
+pub mod Watching
+pub mod Values
+pub mod Effects
+pub mod EffectsLaw
+pub mod Marks
+pub mod MarksLaw

@@ -1,8 +1,19 @@
-//! Two worked grammars for the machine of `token_grammar`: expressions with brackets and operators, and an outline whose
-//! parts carry numbers and whose watcher stops at a level and at a count.
+//! A worked grammar for the machine of `token_grammar`: expressions of numbers, signs, sums and rows, with a watcher that stops at
+//! a count and at a level, and a builder that makes their values.
 #![tactic(auto)]
 
-pub mod expression;
-pub mod outline;
+mod builder;
+mod expression;
+mod mark;
+mod reader;
+mod symbol;
 #[cfg(test)]
 mod tests;
+mod watch;
+
+pub use builder::ExpressionBuilder;
+pub use expression::Expression;
+pub use mark::Mark;
+pub use reader::{Counting, expressions_have_one_value, read_expression};
+pub use symbol::{Rule, Symbol, Taker};
+pub use watch::{Count, Fault, MOST_LEVELS, MOST_MARKS};

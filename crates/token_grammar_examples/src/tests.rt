@@ -1,109 +1,155 @@
-use crate::expression::{Mark, NoExpression, read_expression};
-use crate::outline::{Fault, Symbol, Token, read_outline};
+use crate::expression::Expression;
+use crate::mark::Mark;
+use crate::reader::{expressions_have_one_value, read_expression};
+use crate::symbol::Rule::Whole;
+use crate::symbol::Symbol::{Row, Taken};
+use crate::symbol::Taker::Number;
+use crate::watch::{Count, Fault};
 use std::test::Fail;
-use token_grammar::Refusal;
+use text_core::List;
+use token_grammar::{Refusal, recognize};
+
+// Whether these are two numbers.
+fn are_numbers(list: &List<Expression>, first: u32, second: u32) -> bool {
+    match list.as_slice() {
+        [Expression::Number(one), Expression::Number(other)] => *one == first && *other == second,
+        _ => false,
+    }
+}
 
 #[test]
-fn expressions_are_read(rt: HostRuntime) -> Result<(), Fail> {
-    let whole = vec![in rt.alloc();
-        Mark::Minus,
-        Mark::Open,
-        Mark::Number,
+fn sums_and_signs_are_read(rt: HostRuntime) -> Result<(), Fail> {
+    // 1 + (2 + 3) + -4
+    let tokens = vec![in rt.alloc();
+        Mark::Number(1),
         Mark::Plus,
-        Mark::Number,
+        Mark::Open,
+        Mark::Number(2),
+        Mark::Plus,
+        Mark::Number(3),
         Mark::Close,
+        Mark::Plus,
+        Mark::Minus,
+        Mark::Number(4),
     ]?;
-    assert!(rt; read_expression(rt.alloc(), &whole).is_ok());
-    let twice = vec![in rt.alloc(); Mark::Number, Mark::Plus, Mark::Times, Mark::Number]?;
+    expressions_have_one_value(&tokens);
+    let sum = read_expression(rt.alloc(), &tokens);
+    assert!(rt;
+        match &sum {
+            Ok(Expression::Sum(operands)) => match operands.as_slice() {
+                [
+                    Expression::Number(1),
+                    Expression::Sum(inner),
+                    Expression::Negated(last)
+                ] => { are_numbers(inner, 2, 3) && matches!(last.get(), Expression::Number(4)) }
+                _ => false,
+            },
+            _ => false,
+        }
+    );
+    Ok(())
+}
+
+#[test]
+fn rows_are_read(rt: HostRuntime) -> Result<(), Fail> {
+    // [[1, 2], 3, []]
+    let tokens = vec![in rt.alloc();
+        Mark::OpenRow,
+        Mark::OpenRow,
+        Mark::Number(1),
+        Mark::Comma,
+        Mark::Number(2),
+        Mark::CloseRow,
+        Mark::Comma,
+        Mark::Number(3),
+        Mark::Comma,
+        Mark::OpenRow,
+        Mark::CloseRow,
+        Mark::CloseRow,
+    ]?;
+    let row = read_expression(rt.alloc(), &tokens);
+    assert!(rt;
+        match &row {
+            Ok(Expression::Row(members)) => match members.as_slice() {
+                [
+                    Expression::Row(inner),
+                    Expression::Number(3),
+                    Expression::Row(empty)
+                ] => { are_numbers(inner, 1, 2) && empty.len() == 0 }
+                _ => false,
+            },
+            _ => false,
+        }
+    );
+    let mut count = Count { marks: 0, level: 0 };
+    assert!(rt; recognize(rt.alloc(), Row(Whole), &tokens, &mut count).is_ok());
+    assert!(rt; count.marks == 6 && count.level == 0);
+    Ok(())
+}
+
+#[test]
+fn expressions_are_refused(rt: HostRuntime) -> Result<(), Fail> {
+    let twice = vec![in rt.alloc(); Mark::Number(1), Mark::Plus, Mark::Plus, Mark::Number(1)]?;
     assert!(rt;
         matches!(
             read_expression(rt.alloc(), &twice),
-            Err(NoExpression::Unexpected(2))
+            Err(Refusal::Unexpected { number: 2, .. })
         )
     );
-    let chain = vec![in rt.alloc(); Mark::Number, Mark::Plus, Mark::Number, Mark::Plus]?;
+    let beside = vec![in rt.alloc(); Mark::Number(1), Mark::Number(2)]?;
     assert!(rt;
         matches!(
-            read_expression(rt.alloc(), &chain),
-            Err(NoExpression::Unexpected(3))
-        )
-    );
-    let open = vec![in rt.alloc(); Mark::Open, Mark::Number]?;
-    assert!(rt;
-        matches!(
-            read_expression(rt.alloc(), &open),
-            Err(NoExpression::EndsEarly)
-        )
-    );
-    Ok(())
-}
-
-#[test]
-fn outlines_are_read(rt: HostRuntime) -> Result<(), Fail> {
-    let whole = vec![in rt.alloc();
-        Token::Label(0),
-        Token::Begin,
-        Token::Label(0),
-        Token::End,
-        Token::Label(1),
-        Token::Reference(0),
-    ]?;
-    assert!(rt; matches!(read_outline(rt.alloc(), &whole), Ok(4)));
-    let skipped = vec![in rt.alloc(); Token::Label(0), Token::Label(2)]?;
-    assert!(rt;
-        matches!(
-            read_outline(rt.alloc(), &skipped),
+            read_expression(rt.alloc(), &beside),
             Err(Refusal::Unexpected {
-                place: 1,
-                last: Some(Symbol::NewLabel(0))
+                number: 1,
+                last: Some(Taken(Number))
             })
         )
     );
-    let ahead = vec![in rt.alloc(); Token::Label(0), Token::Reference(0)]?;
+    let unfinished = vec![in rt.alloc(); Mark::OpenRow, Mark::Number(1)]?;
     assert!(rt;
         matches!(
-            read_outline(rt.alloc(), &ahead),
-            Err(Refusal::Unexpected { place: 1, .. })
+            read_expression(rt.alloc(), &unfinished),
+            Err(Refusal::EndsEarly)
         )
     );
-    let open = vec![in rt.alloc(); Token::Label(0), Token::Begin, Token::Label(0)]?;
-    assert!(rt; matches!(read_outline(rt.alloc(), &open), Err(Refusal::EndsEarly)));
     Ok(())
 }
 
 #[test]
-fn outlines_are_stopped(rt: HostRuntime) -> Result<(), Fail> {
-    let deep = vec![in rt.alloc();
-        Token::Label(0),
-        Token::Begin,
-        Token::Label(0),
-        Token::Begin,
-        Token::Label(0),
-        Token::Begin,
-    ]?;
+fn expressions_are_stopped(rt: HostRuntime) -> Result<(), Fail> {
+    let deep = vec![in rt.alloc(); Mark::OpenRow, Mark::OpenRow, Mark::OpenRow, Mark::OpenRow]?;
     assert!(rt;
         matches!(
-            read_outline(rt.alloc(), &deep),
+            read_expression(rt.alloc(), &deep),
             Err(Refusal::Stopped {
-                place: 5,
+                number: 3,
                 fault: Fault::TooDeep
             })
         )
     );
+    // The ninth number or row is the fourth row that is open.
     let both = vec![in rt.alloc();
-        Token::Label(0),
-        Token::Label(1),
-        Token::Begin,
-        Token::Label(0),
-        Token::Begin,
-        Token::Label(0),
-        Token::Begin,
+        Mark::OpenRow,
+        Mark::Number(1),
+        Mark::Comma,
+        Mark::Number(1),
+        Mark::Comma,
+        Mark::Number(1),
+        Mark::Comma,
+        Mark::OpenRow,
+        Mark::Number(1),
+        Mark::Comma,
+        Mark::Number(1),
+        Mark::Comma,
+        Mark::OpenRow,
+        Mark::OpenRow,
     ]?;
     assert!(rt;
         matches!(
-            read_outline(rt.alloc(), &both),
+            read_expression(rt.alloc(), &both),
             Err(Refusal::Stopped {
-                place: 6,
+                number: 13,
                 fault: Fault::TooMany
             })
         )

@@ -1,30 +1,49 @@
 -- A scope and the bindings of the watcher, where they bind the same of a text's words.
-use Rattle.std.specs.Prelude.{◌≡◌, ◌||◌, ◌⊎◌, ◌==◌, Decides, ℕ, Bool, true, false, List, [], ◌∷◌}
-use Rattle.std.proofs.Common.{refl, sym, ap, inl, inr, arith}
+use Rattle.std.specs.Prelude.{◌≡◌, ◌+◌, ◌||◌, ◌⊎◌, ◌==◌, Decides, ℕ, Bool, true, false, not, cond, List, [], ◌∷◌, bytes_eq}
+use Rattle.std.proofs.Common.{refl, sym, ◌∙◌, ap, inl, inr, arith}
+use Rattle.std.proofs.lemmas.Slice.Eq.{bytes_eq-Decides}
+use Rattle.text_core.proofs.Laws.{number_same}
 use Rattle.text_core.specs.Lists.{IsAmong}
 use Rattle.text_core.specs.Names.{Text}
 use Rattle.tptp_lexer.specs.Tokens.{Token}
 use Rattle.tptp_grammar.specs.Limits.{Bindings, is_bound}
 use Rattle.tptp_grammar.specs.Marks.{number_of}
-use Rattle.tptp_grammar.proofs.Numbered.{same_word}
+
+module _ (t u : Token) (ts : List Token) (x : Text) where
+  -- what the tests of the first token say
+  told : (a b : Bool) → bytes_eq u.text t.text ≡ a → bytes_eq u.text x ≡ b →
+      (IsAmong t ts → number_of ts t.text ≡ number_of ts x → t.text ≡ x) → IsAmong t (u ∷ ts) →
+      cond (not a) (1 + number_of ts t.text) 0 ≡ cond (not b) (1 + number_of ts x) 0 → t.text ≡ x
+  told true true d e later among same = sym ((bytes_eq-Decides u.text t.text).0 d) ∙ (bytes_eq-Decides u.text x).0 e
+  told true false d e later among same = absurd (omega arith)
+  told false true d e later among same = absurd (omega arith)
+  told false false d e later (inl here) same =
+      let true_too = (bytes_eq-Decides u.text t.text).1 (ap (λ (v : Token). v.text) here) in absurd (cc)
+  told false false d e later (inr among) same = later among (omega arith)
+
+-- the number of a word among tokens tells the word, where a token is this word
+same_word : (ts : List Token) (t : Token) (x : Text) → IsAmong t ts → number_of ts t.text ≡ number_of ts x → t.text ≡ x
+same_word [] t x among same = absurd among
+same_word (u ∷ ts) t x among same =
+    told t u ts x (bytes_eq u.text t.text) (bytes_eq u.text x) refl refl (same_word ts t x) among same
 
 -- a token's text is in scope exactly where its number is bound
 abbrev pub Agrees : List Token → Bindings → List Text → Type 0
 Agrees all bindings scope = (t : Token) → IsAmong t all → Decides (is_bound (number_of all t.text) bindings) (IsAmong t.text scope)
 
-same_number : (m n : ℕ) → m == n ≡ true → m ≡ n
-same_number m n e = grind arith
-
+-- numbers that are the same pass the test
 equal_numbers : (m n : ℕ) → m ≡ n → m == n ≡ true
 equal_numbers m n e = grind arith
 
 module _ (all : List Token) (bindings : Bindings) (scope : List Text) (x : Text) (t : Token) (among : IsAmong t all)
     (agrees : Decides (is_bound (number_of all t.text) bindings) (IsAmong t.text scope)) where
+  -- a bound number is that of the new variable, or of one in scope
   found : (same : Bool) → number_of all x == number_of all t.text ≡ same → same || is_bound (number_of all t.text) bindings ≡ true →
       (x ≡ t.text) ⊎ IsAmong t.text scope
-  found true e h = inl (sym (same_word all t x among (sym (same_number (number_of all x) (number_of all t.text) e))))
+  found true e h = inl (sym (same_word all t x among (sym (number_same (number_of all x) (number_of all t.text) e))))
   found false e h = inr (agrees.0 h)
 
+  -- a variable in the larger scope has a bound number
   covered : (same : Bool) → number_of all x == number_of all t.text ≡ same → (x ≡ t.text) ⊎ IsAmong t.text scope →
       same || is_bound (number_of all t.text) bindings ≡ true
   covered true e h = refl
@@ -39,5 +58,6 @@ agrees_with all bindings scope level x agrees t among = (
   covered all bindings scope x t among (agrees t among) (number_of all x == number_of all t.text) refl,
 )
 
+-- nothing is in scope, and nothing is bound
 pub agrees_nowhere : (all : List Token) → Agrees all [] []
 agrees_nowhere all t among = (λ h. absurd (cc), λ h. absurd h)

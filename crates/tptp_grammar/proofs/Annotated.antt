@@ -4,7 +4,7 @@ use Rattle.std.proofs.Common.{refl, sym, inl, inr, append-nil}
 use Rattle.text_core.specs.Names.{Text}
 use Rattle.tptp_lexer.specs.declared.kind.Kind.TheVariants as kind
 use Rattle.tptp_lexer.specs.Tokens.{Token}
-use Rattle.tptp_grammar.specs.declared.symbol.Symbol.TheVariants as symbol
+use Rattle.tptp_grammar.specs.declared.item_part.ItemPart.TheVariants as parts
 use Rattle.tptp_grammar.specs.Spells.{IsGeneral, IsGeneralList, AreGenerals, IsData}
 use Rattle.tptp_grammar.specs.Spells.IsGeneral.{data_alone, data_with, in_list}
 use Rattle.tptp_grammar.specs.Spells.IsGeneralList.{empty_list, whole_list}
@@ -16,7 +16,7 @@ use Rattle.tptp_grammar.proofs.Single.{takes_other, token_of, word_of, plain_of}
 module _ (all : List Token) (scope : List Text) where
   mutual
     pub general_watched : {level : ℕ} {us : List Token} → IsGeneral level us →
-        Watching all (symbol.General level ∷ []) level level us scope scope (Unit {0})
+        Watching all (parts.General level ∷ []) level level us scope scope (Unit {0})
     general_watched {us = us} (data_alone datum) =
         respelled all (append-nil us)
         (chosen all (inl refl) (right all (data_watched datum) (chosen all (inl refl) (nothing all))))
@@ -27,7 +27,7 @@ module _ (all : List Token) (scope : List Text) where
     general_watched (in_list list) = chosen all (inr (inl refl)) (general_list_watched list)
 
     pub general_list_watched : {level : ℕ} {us : List Token} → IsGeneralList level us →
-        Watching all (symbol.List level ∷ []) level level us scope scope (Unit {0})
+        Watching all (parts.List level ∷ []) level level us scope scope (Unit {0})
     general_list_watched (empty_list {level = level} first last below opens closes split) =
         respelled all (sym split)
         (chosen all (inl refl)
@@ -42,7 +42,7 @@ module _ (all : List Token) (scope : List Text) where
         (token_of all kind.CloseBracket last refl closes)))))))
 
     generals_watched : {level : ℕ} {us : List Token} → AreGenerals level us →
-        Watching all (symbol.GeneralsRest level ∷ []) level level us scope scope (Unit {0})
+        Watching all (parts.GeneralsRest level ∷ []) level level us scope scope (Unit {0})
     generals_watched no_general = chosen all (inl refl) (nothing all)
     generals_watched (next_general comma us vs mark general generals split) =
         respelled all (sym split)
@@ -50,7 +50,7 @@ module _ (all : List Token) (scope : List Text) where
         (right all (general_watched general) (generals_watched generals))))
 
     data_watched : {level : ℕ} {us : List Token} → IsData level us →
-        Watching all (symbol.Data level ∷ []) level level us scope scope (Unit {0})
+        Watching all (parts.Data level ∷ []) level level us scope scope (Unit {0})
     data_watched (plain t kinds split) = respelled all (sym split) (chosen all (inl refl) (plain_of all t kinds))
     data_watched (word_alone t is_word split) =
         respelled all (sym split)

@@ -11,34 +11,39 @@ use Rattle.std.proofs.lemmas.List.Elements.{filter-append, All-head, All-tail}
 use Rattle.std.proofs.lemmas.List.Folds.{list_any-append}
 use Rattle.std.proofs.lemmas.List.Quantifiers.{all_pairs_push, all_pairs_remove}
 use Rattle.std.proofs.lemmas.Option.{get_or_from_slice_get, slice_get-get_or, slice_get_within}
-use Rattle.tptp_grammar.specs.declared.scopes.Binding as Binding
+use Rattle.tptp_grammar.specs.declared.scopes.Binding.{Binding}
 use Rattle.tptp_grammar.specs.Limits.{open_at, is_bound}
 use Rattle.tptp_grammar.specs.Counts.{NeverFall}
 
 -- lists and tests
 
+-- a filter keeps a list of which each member passes
 filter_all : {X : Type 0} (p : X → Bool) (xs : List X) → All (λ x. p x ≡ true) xs → filter p xs ≡ xs
 filter_all p [] all = refl
 filter_all p (x ∷ xs) all =
     rw (All-head (λ y. p y ≡ true) x xs all) (ap (λ ys. x ∷ ys) (filter_all p xs (All-tail (λ y. p y ≡ true) x xs all)))
 
+-- the last member of a reversed list, kept or not
 seam : {X : Type 0} (p : X → Bool) (x : X) (ys : List X) (passes : Bool) →
     reverse ys ++ cond passes (x ∷ []) [] ≡ reverse (cond passes (x ∷ ys) ys)
 seam p x ys true = sym (reverse-append (x ∷ []) ys)
 seam p x ys false = append-nil (reverse ys)
 
+-- the filter of a reversed list is the reversed filter
 filter-reverse : {X : Type 0} (p : X → Bool) (xs : List X) → filter p (reverse xs) ≡ reverse (filter p xs)
 filter-reverse p [] = refl
 filter-reverse p (x ∷ xs) =
     ap (filter p) (reverse-append (x ∷ []) xs) ∙ (filter-append p (reverse xs) (x ∷ []) ∙
     (ap (λ ys. ys ++ filter p (x ∷ [])) (filter-reverse p xs) ∙ seam p x (filter p xs) (p x)))
 
+-- two tests in another order
 either : (a b : Bool) → (b || (a || false)) ≡ (a || b)
 either true true = refl
 either true false = refl
 either false true = refl
 either false false = refl
 
+-- some member of a reversed list passes where some of the list does
 list_any-reverse : {X : Type 0} (p : X → Bool) (xs : List X) → list_any p (reverse xs) ≡ list_any p xs
 list_any-reverse p [] = refl
 list_any-reverse p (x ∷ xs) =
@@ -46,91 +51,97 @@ list_any-reverse p (x ∷ xs) =
     (ap (λ b. b || (p x || false)) (list_any-reverse p xs) ∙ either (p x) (list_any p xs)))
 
 -- what is used is bound, or it is not
-pub used_bound : (number : ℕ) (now bindings : List Binding.Binding) (bound : Bool) → reverse now ≡ bindings →
+pub used_bound : (number : ℕ) (now bindings : List Binding) (bound : Bool) → reverse now ≡ bindings →
     bound ≡ list_any (λ b. b.variable == number) now → is_bound number bindings ≡ bound
 used_bound number now bindings bound is same =
-    ap (is_bound number) (sym is) ∙ (list_any-reverse (λ (b : Binding.Binding). b.variable == number) now ∙ sym same)
+    ap (is_bound number) (sym is) ∙ (list_any-reverse (λ (b : Binding). b.variable == number) now ∙ sym same)
 
 -- an element that fails the test may be taken away
-filter-remove : {X : Type 0} (p : X → Bool) (xs : List X) (place : ℕ) (x : X) → slice_get xs place ≡ Some x → p x ≡ false →
-    filter p (remove xs place) ≡ filter p xs
-filter-remove p xs place x is fails =
-    let split = split_at xs place x (slice_get_within xs place x is) in
-    let here = get_or_from_slice_get xs place x x is in
-    filter-append p (take place xs) (drop (suc place) xs) ∙
-    (ap (λ ys. filter p (take place xs) ++ ys) (sym (ap (λ b. cond b (x ∷ filter p (drop (suc place) xs)) (filter p (drop (suc place) xs))) fails)) ∙
-    (sym (filter-append p (take place xs) (x ∷ drop (suc place) xs)) ∙
-    ap (filter p) (sym (split ∙ ap (λ y. take place xs ++ (y ∷ drop (suc place) xs)) here))))
+filter-remove : {X : Type 0} (p : X → Bool) (xs : List X) (number : ℕ) (x : X) → slice_get xs number ≡ Some x → p x ≡ false →
+    filter p (remove xs number) ≡ filter p xs
+filter-remove p xs number x is fails =
+    let split = split_at xs number x (slice_get_within xs number x is) in
+    let here = get_or_from_slice_get xs number x x is in
+    filter-append p (take number xs) (drop (suc number) xs) ∙
+    (ap (λ ys. filter p (take number xs) ++ ys) (sym (ap (λ b. cond b (x ∷ filter p (drop (suc number) xs)) (filter p (drop (suc number) xs))) fails)) ∙
+    (sym (filter-append p (take number xs) (x ∷ drop (suc number) xs)) ∙
+    ap (filter p) (sym (split ∙ ap (λ y. take number xs ++ (y ∷ drop (suc number) xs)) here))))
 
--- the bindings from the place on are open at the level, and no open one was taken away
-pub record Closing (level : ℕ) (before now : List Binding.Binding) (place : ℕ) (in_order : Bool) : Type 0 where
+-- the bindings from the number on are open at the level, and no open one was taken away
+pub record Closing (level : ℕ) (before now : List Binding) (number : ℕ) (in_order : Bool) : Type 0 where
   pub same : open_at level now ≡ open_at level before
-  pub within : place ≤ length now
-  pub rest : AllWithin (λ b. b.level ≤ level) now place (length now)
+  pub within : number ≤ length now
+  pub rest : AllWithin (λ b. b.level ≤ level) now number (length now)
   pub ordered : in_order ≡ true → NeverFall now
 
-pub closing_removed : (level : ℕ) (before now : List Binding.Binding) (place : ℕ) (in_order : Bool) (b : Binding.Binding) →
-    Closing level before now place in_order → 0 < place → slice_get now (place - 1) ≡ Some b → level < b.level →
-    Closing level before (remove now (place - 1)) (place - 1) in_order
-closing_removed level before now place in_order b closing some is above =
-    let here = slice_get_within now (place - 1) b is in
-    let len = length-remove now (place - 1) here in
+-- a newest binding above the level was taken away
+pub closing_removed : (level : ℕ) (before now : List Binding) (number : ℕ) (in_order : Bool) (b : Binding) →
+    Closing level before now number in_order → 0 < number → slice_get now (number - 1) ≡ Some b → level < b.level →
+    Closing level before (remove now (number - 1)) (number - 1) in_order
+closing_removed level before now number in_order b closing some is above =
+    let here = slice_get_within now (number - 1) b is in
+    let len = length-remove now (number - 1) here in
     record {
-      same = filter-remove (λ (c : Binding.Binding). nat_le c.level level) now (place - 1) b is (lt-leb b.level level above) ∙ closing.same;
+      same = filter-remove (λ (c : Binding). nat_le c.level level) now (number - 1) b is (lt-leb b.level level above) ∙ closing.same;
       within = omega arith;
-      rest = λ k d from to. rw (get_or-remove_above now (place - 1) d k from here) (closing.rest (k + 1) d (omega arith) (omega arith));
-      ordered = λ order. all_pairs_remove (λ (older newer : Binding.Binding). older.level ≤ newer.level) now (place - 1) here (closing.ordered order);
+      rest = λ k d from to. rw (get_or-remove_above now (number - 1) d k from here) (closing.rest (k + 1) d (omega arith) (omega arith));
+      ordered = λ order. all_pairs_remove (λ (older newer : Binding). older.level ≤ newer.level) now (number - 1) here (closing.ordered order);
     }
 
--- what is open from the place on, and at the place before it, is open from there on
-one_more : (level : ℕ) (now : List Binding.Binding) (place : ℕ) (b : Binding.Binding) → 0 < place → slice_get now (place - 1) ≡ Some b →
-    b.level ≤ level → AllWithin (λ c. c.level ≤ level) now place (length now) → AllWithin (λ c. c.level ≤ level) now (place - 1) (length now)
-one_more level now place b some is within rest k d from to =
+-- what is open from the number on, and at the number before it, is open from there on
+one_more : (level : ℕ) (now : List Binding) (number : ℕ) (b : Binding) → 0 < number → slice_get now (number - 1) ≡ Some b →
+    b.level ≤ level → AllWithin (λ c. c.level ≤ level) now number (length now) → AllWithin (λ c. c.level ≤ level) now (number - 1) (length now)
+one_more level now number b some is within rest k d from to =
     elim (eq-or-lt_of_le from) [
-      | inl e ↦ rw (← e, get_or_from_slice_get now (place - 1) b d is) within
+      | inl e ↦ rw (← e, get_or_from_slice_get now (number - 1) b d is) within
       | inr more ↦ rest k d (omega arith) to
     ]
 
-pub closing_kept : (level : ℕ) (before now : List Binding.Binding) (place : ℕ) (in_order : Bool) (b : Binding.Binding) →
-    Closing level before now place in_order → 0 < place → slice_get now (place - 1) ≡ Some b → b.level ≤ level →
-    Closing level before now (place - 1) in_order
-closing_kept level before now place in_order b closing some is within = record {
+-- a newest binding at most at the level stays
+pub closing_kept : (level : ℕ) (before now : List Binding) (number : ℕ) (in_order : Bool) (b : Binding) →
+    Closing level before now number in_order → 0 < number → slice_get now (number - 1) ≡ Some b → b.level ≤ level →
+    Closing level before now (number - 1) in_order
+closing_kept level before now number in_order b closing some is within = record {
   same = closing.same;
   within = let here = closing.within in omega arith;
-  rest = one_more level now place b some is within closing.rest;
+  rest = one_more level now number b some is within closing.rest;
   ordered = closing.ordered;
 }
 
-closed : (level : ℕ) (before now : List Binding.Binding) → open_at level now ≡ open_at level before →
+-- where all that are left are open, they are those that are open
+closed : (level : ℕ) (before now : List Binding) → open_at level now ≡ open_at level before →
     All (λ b. b.level ≤ level) now → reverse now ≡ open_at level (reverse before)
 closed level before now same all =
-    ap reverse (sym (filter_all (λ (b : Binding.Binding). nat_le b.level level) now (λ k d within. le-leb (get_or now k d).level level (all k d within))) ∙ same)
-    ∙ sym (filter-reverse (λ (b : Binding.Binding). nat_le b.level level) before)
+    ap reverse (sym (filter_all (λ (b : Binding). nat_le b.level level) now (λ k d within. le-leb (get_or now k d).level level (all k d within))) ∙ same)
+    ∙ sym (filter-reverse (λ (b : Binding). nat_le b.level level) before)
 
-pub closed_at_end : (level : ℕ) (before now : List Binding.Binding) (place : ℕ) (in_order : Bool) →
-    Closing level before now place in_order → place ≤ 0 → reverse now ≡ open_at level (reverse before)
-closed_at_end level before now place in_order closing end = closed level before now closing.same (λ k d within. closing.rest k d (omega arith) within)
+-- all bindings were looked at
+pub closed_at_end : (level : ℕ) (before now : List Binding) (number : ℕ) (in_order : Bool) →
+    Closing level before now number in_order → number ≤ 0 → reverse now ≡ open_at level (reverse before)
+closed_at_end level before now number in_order closing end = closed level before now closing.same (λ k d within. closing.rest k d (omega arith) within)
 
-pub closed_in_order : (level : ℕ) (before now : List Binding.Binding) (place : ℕ) (in_order : Bool) (b : Binding.Binding) →
-    Closing level before now place in_order → 0 < place → slice_get now (place - 1) ≡ Some b → b.level ≤ level →
+-- the older ones are open too, where levels never fall
+pub closed_in_order : (level : ℕ) (before now : List Binding) (number : ℕ) (in_order : Bool) (b : Binding) →
+    Closing level before now number in_order → 0 < number → slice_get now (number - 1) ≡ Some b → b.level ≤ level →
     in_order ≡ true → reverse now ≡ open_at level (reverse before)
-closed_in_order level before now place in_order b closing some is within order =
+closed_in_order level before now number in_order b closing some is within order =
     closed level before now closing.same
-    (λ k d to. elim (cases_lt k (place - 1)) [
-      | inr from ↦ one_more level now place b some is within closing.rest k d from to
+    (λ k d to. elim (cases_lt k (number - 1)) [
+      | inr from ↦ one_more level now number b some is within closing.rest k d from to
       | inl older ↦
-          let le = closing.ordered order k (place - 1) d older (slice_get_within now (place - 1) b is) in
-          let newer = ap (λ (c : Binding.Binding). c.level) (get_or_from_slice_get now (place - 1) b d is) in omega arith
+          let le = closing.ordered order k (number - 1) d older (slice_get_within now (number - 1) b is) in
+          let newer = ap (λ (c : Binding). c.level) (get_or_from_slice_get now (number - 1) b d is) in omega arith
     ])
 
-pub never_fall_push : (bindings : List Binding.Binding) (b : Binding.Binding) (newest : ℕ) → NeverFall bindings →
-    newest ≡ unwrap_or (option_map (λ (c : Binding.Binding). c.level) (slice_get bindings (length bindings - 1))) 0 → newest ≤ b.level →
+-- levels do not fall where that of the newest was at most the new one
+pub never_fall_push : (bindings : List Binding) (b : Binding) (newest : ℕ) → NeverFall bindings →
+    newest ≡ unwrap_or (option_map (λ (c : Binding). c.level) (slice_get bindings (length bindings - 1))) 0 → newest ≤ b.level →
     NeverFall (bindings ++ b ∷ [])
 never_fall_push bindings b newest order is least =
-    all_pairs_push (λ (older newer : Binding.Binding). older.level ≤ newer.level) bindings b order
+    all_pairs_push (λ (older newer : Binding). older.level ≤ newer.level) bindings b order
     (λ k d within.
     let last = get_or bindings (length bindings - 1) d in
-    let there = is ∙ ap (λ o. unwrap_or (option_map (λ (c : Binding.Binding). c.level) o) 0)
+    let there = is ∙ ap (λ o. unwrap_or (option_map (λ (c : Binding). c.level) o) 0)
     (slice_get-get_or bindings (length bindings - 1) d (omega arith)) in
     let at_last : k ≤ length bindings - 1 = omega arith in
     elim (eq-or-lt_of_le at_last) [

@@ -6,9 +6,10 @@ use Rattle.logic_core.specs.declared.formula.Formula.{Formula, Pred}
 use Rattle.tptp_lexer.specs.declared.kind.Kind.{Kind}
 use Rattle.tptp_lexer.specs.declared.kind.Kind.TheVariants as kind
 use Rattle.tptp_lexer.specs.Tokens.{Token}
-use Rattle.tptp_grammar.specs.Symbols.{same_kind}
+use Rattle.tptp_grammar.specs.Parts.{same_kind}
 use Rattle.tptp_grammar.specs.Reading.{Read, behind, atom_at, atom_from, rest_at, rest_from}
 
+-- a kind is the same as itself
 same_kind-self : (k : Kind) → same_kind k k ≡ true
 same_kind-self kind.Lower = refl
 same_kind-self _ = refl
@@ -17,6 +18,7 @@ same_kind-self _ = refl
 pub behind-here : (k : Kind) (t : Token) (ts : List Token) → t.kind ≡ k → behind k (t ∷ ts) ≡ Some ts
 behind-here k t ts is = ap (λ other. if same_kind other k then Some ts else None) is ∙ ap (λ b. if b then Some ts else None) (same_kind-self k)
 
+-- a token of another kind is not found
 pub behind-other : (k other : Kind) (t : Token) (ts : List Token) → t.kind ≡ other → same_kind other k ≡ false → behind k (t ∷ ts) ≡ None
 behind-other k other t ts is apart = ap (λ other. if same_kind other k then Some ts else None) is ∙ ap (λ b. if b then Some ts else None) apart
 
@@ -42,28 +44,33 @@ ends_formula kind.Nor = false
 ends_formula kind.Nand = false
 ends_formula _ = true
 
--- the tokens are none, or the first ends what stands before it
+-- the tokens are none, or the first ends what is before it
 abbrev pub Ends : (Kind → Bool) → List Token → Type 0
 Ends ends [] = Unit {0}
 Ends ends (t ∷ ts) = ends t.kind ≡ true
 
+-- what ends a formula ends a unit
 unit_ended : (k : Kind) → ends_formula k ≡ true → ends_unit k ≡ true
 unit_ended kind.OpenParenthesis e = e
 unit_ended kind.Equal e = e
 unit_ended kind.NotEqual e = e
 unit_ended _ e = refl
 
+-- tokens that end a formula end a unit
 pub formula_ends_unit : (ts : List Token) → Ends ends_formula ts → Ends ends_unit ts
 formula_ends_unit [] ends = tt
 formula_ends_unit (t ∷ ts) ends = unit_ended t.kind ends
 
+-- a token of a kind that ends
 pub ends_at : (ends : Kind → Bool) (k : Kind) (t : Token) → t.kind ≡ k → ends k ≡ true → ends t.kind ≡ true
 ends_at ends k t is e = ap ends is ∙ e
 
+-- what ends a formula is no `&`
 no_ampersand : (k : Kind) → ends_formula k ≡ true → same_kind k kind.Ampersand ≡ false
 no_ampersand kind.Ampersand e = absurd (cc)
 no_ampersand _ e = refl
 
+-- what ends a formula is no `|`
 no_bar : (k : Kind) → ends_formula k ≡ true → same_kind k kind.Bar ≡ false
 no_bar kind.Bar e = absurd (cc)
 no_bar _ e = refl
@@ -73,10 +80,12 @@ pub ampersand-none : (ts : List Token) → Ends ends_formula ts → behind kind.
 ampersand-none [] ends = refl
 ampersand-none (t ∷ ts) ends = behind-other kind.Ampersand t.kind t ts refl (no_ampersand t.kind ends)
 
+-- nor is there a `|` behind it
 pub bar-none : (ts : List Token) → Ends ends_formula ts → behind kind.Bar ts ≡ None
 bar-none [] ends = refl
 bar-none (t ∷ ts) ends = behind-other kind.Bar t.kind t ts refl (no_bar t.kind ends)
 
+-- an atom is its word where the next token ends it
 atom_ended : (k : Kind) (name : Text) (t : Token) (ts : List Token) → ends_unit k ≡ true → atom_at k name t ts ≡ Some (Pred name [], t ∷ ts)
 atom_ended kind.OpenParenthesis name t ts e = absurd (cc)
 atom_ended kind.Equal name t ts e = absurd (cc)
@@ -89,6 +98,7 @@ unfolding atom_from
 atom-alone name [] ends = refl
 atom-alone name (t ∷ ts) ends = atom_ended t.kind name t ts ends
 
+-- a formula is its unit where the next token ends it
 rest_ended : (unit : List Token → Read Formula) (k : Kind) (g : Formula) (t : Token) (ts : List Token) → ends_formula k ≡ true →
     rest_at unit k g t ts ≡ Some (g, t ∷ ts)
 rest_ended unit kind.Ampersand g t ts e = absurd (cc)

@@ -1,88 +1,84 @@
 -- A text has one refusal at most, and none where the machine accepts it.
-use Rattle.std.specs.Prelude.{ℕ, ◌≡◌, ◌≢◌, Bool, true, false, slice_get, Some, Ok, Err, []}
-use Rattle.std.proofs.Common.{refl, sym, ◌∙◌, ap, subst}
+use Rattle.std.specs.Prelude.{ℕ, ◌≡◌, ◌≢◌, ◌⊎◌, Bool, true, false, slice_get, Some, Ok, Err, []}
+use Rattle.std.proofs.Common.{inl, inr, refl, sym, ◌∙◌, ap, subst}
 use Rattle.token_grammar.specs.Answers.{IsAccepted, IsRefused, AreOne}
 use Rattle.token_grammar.specs.declared.refusal.Refusal.{Refusal}
 use Rattle.token_grammar.specs.declared.refusal.Refusal.TheVariants as machine
-use Rattle.token_grammar.proofs.Agreement as agreement
-use Rattle.token_grammar.proofs.Decided.{computed_decided}
-use Rattle.tptp_lexer.specs.Tokens.{Lexed, starts_of}
+use Rattle.token_grammar.proofs.Laws as agreement
+use Rattle.token_grammar.proofs.Laws.{computed_decided}
+use Rattle.tptp_lexer.specs.Columns.{Lexed, starts_of}
 use Rattle.tptp_grammar.specs.declared.limit.Limit.{Limit}
 use Rattle.tptp_grammar.specs.declared.limit.Limit.TheVariants as limit
 use Rattle.tptp_grammar.specs.declared.refusal.SyntaxRefusal.{SyntaxRefusal}
 use Rattle.tptp_grammar.specs.declared.refusal.SyntaxRefusal.TheVariants.{Unexpected, FunctionTerm, EndOfText, TooDeep, Role, FreeVariable, Memory}
-use Rattle.tptp_grammar.specs.declared.symbol.Symbol.{Symbol}
-use Rattle.tptp_grammar.specs.declared.symbol.Symbol.TheVariants.{Items}
-use Rattle.tptp_grammar.specs.Symbols.{fof_items, items_plan}
-use Rattle.tptp_grammar.specs.SymbolsLaw.{items_law}
+use Rattle.tptp_grammar.specs.declared.item_part.ItemPart.{ItemPart}
+use Rattle.tptp_grammar.specs.declared.item_part.ItemPart.TheVariants.{Items}
+use Rattle.tptp_grammar.specs.Parts.{fof_items}
+use Rattle.tptp_grammar.specs.Plan.{items_plan}
+use Rattle.tptp_grammar.specs.PartsLaw.{items_law}
 use Rattle.tptp_grammar.specs.Limits.{Bindings, items_watcher, look}
 use Rattle.tptp_grammar.specs.Marks.{marks_of}
-use Rattle.tptp_grammar.specs.Texts.{SyntaxFault, IsSyntaxRefusal, IsUnexpectedAt, makes_function}
+use Rattle.tptp_grammar.specs.Texts.{SyntaxFault, IsUnexpectedAt, IsStoppedAt, makes_function}
 use Rattle.tptp_grammar.specs.Told.{Tells, IsMachineRefusal, unexpected, limited}
 
-told_function : (lexed : Lexed) (n place : ℕ) (function : Bool) → slice_get (starts_of lexed.tokens) n ≡ Some place →
-    IsUnexpectedAt (marks_of lexed.tokens) n function → SyntaxFault lexed (unexpected function place)
-told_function lexed n place true at found = (n, at, found)
-told_function lexed n place false at found = (n, at, found)
+-- an unexpected token is a fault, whether it would make a term with arguments or not
+pub unexpected_told : (lexed : Lexed) (n offset : ℕ) (function : Bool) → slice_get (starts_of lexed.tokens) n ≡ Some offset →
+    IsUnexpectedAt (marks_of lexed.tokens) n function → SyntaxFault lexed (unexpected function offset)
+unexpected_told lexed n offset true at found = (n, at, found)
+unexpected_told lexed n offset false at found = (n, at, found)
 
-told_limit : (lexed : Lexed) (n place : ℕ) (why : Limit) (after : Bindings) → slice_get (starts_of lexed.tokens) n ≡ Some place →
-    IsRefused fof_items items_watcher Items [] (marks_of lexed.tokens) after (machine.Stopped n why) → SyntaxFault lexed (limited why place)
-told_limit lexed n place limit.TooDeep after at stopped = (n, at, stopped)
-told_limit lexed n place limit.UnknownRole after at stopped = (n, at, stopped)
-told_limit lexed n place limit.FreeVariable after at stopped = (n, at, stopped)
+-- a token at which the watcher stops is a fault, whatever it finds
+pub stopped_told : (lexed : Lexed) (n offset : ℕ) (why : Limit) → slice_get (starts_of lexed.tokens) n ≡ Some offset →
+    IsStoppedAt (marks_of lexed.tokens) n why → SyntaxFault lexed (limited why offset)
+stopped_told lexed n offset limit.TooDeep at found = (n, at, found)
+stopped_told lexed n offset limit.UnknownRole at found = (n, at, found)
+stopped_told lexed n offset limit.FreeVariable at found = (n, at, found)
 
-explained : (lexed : Lexed) (refusal : SyntaxRefusal) → SyntaxFault lexed refusal → IsSyntaxRefusal lexed refusal
-explained lexed (Unexpected place) fault = fault
-explained lexed (FunctionTerm place) fault = fault
-explained lexed (EndOfText place) fault = fault
-explained lexed (TooDeep place) fault = fault
-explained lexed (Role place) fault = fault
-explained lexed (FreeVariable place) fault = fault
-explained lexed Memory fault = tt
-
--- what the machine's refusal is told as is the refusal of the tokens
-pub told_fault : (lexed : Lexed) (answer : Refusal Symbol Limit) (refusal : SyntaxRefusal) → IsMachineRefusal lexed answer →
-    Tells lexed answer refusal → IsSyntaxRefusal lexed refusal
-told_fault lexed machine.Memory refusal refused e = subst (IsSyntaxRefusal lexed) (sym e) tt
-told_fault lexed (machine.Unexpected n last) refusal (after, found) (t, place, here, at, e) =
-    explained lexed refusal (subst (SyntaxFault lexed) (sym e)
-    (told_function lexed n place (makes_function last t) at (after, last, t, found, here, refl)))
-told_fault lexed (machine.Stopped n why) refusal (after, stopped) (place, at, e) =
-    explained lexed refusal (subst (SyntaxFault lexed) (sym e) (told_limit lexed n place why after at stopped))
-told_fault lexed machine.EndsEarly refusal (after, early) e = explained lexed refusal (subst (SyntaxFault lexed) (sym e) (refl, (after, early)))
+-- what the machine's refusal is told as is want of memory, or the refusal of the tokens
+pub told_fault : (lexed : Lexed) (answer : Refusal ItemPart Limit) (refusal : SyntaxRefusal) → IsMachineRefusal lexed answer →
+    Tells lexed answer refusal → (refusal ≡ Memory) ⊎ SyntaxFault lexed refusal
+told_fault lexed machine.Memory refusal refused e = inl e
+told_fault lexed (machine.Unexpected n last) refusal (after, found) (t, offset, here, at, e) =
+    inr (subst (SyntaxFault lexed) (sym e)
+    (unexpected_told lexed n offset (makes_function last t) at (after, last, t, found, here, refl)))
+told_fault lexed (machine.Stopped n why) refusal (after, stopped) (offset, at, e) =
+    inr (subst (SyntaxFault lexed) (sym e) (stopped_told lexed n offset why at stopped))
+told_fault lexed machine.EndsEarly refusal (after, early) e = inr (subst (SyntaxFault lexed) (sym e) (refl, (after, early)))
 
 -- an answer of the machine that is told as this refusal
 abbrev Machine : Lexed → SyntaxRefusal → Type 0
-Machine lexed refusal = (answer : Refusal Symbol Limit) × IsMachineRefusal lexed answer × Tells lexed answer refusal × (answer ≢ machine.Memory)
+Machine lexed refusal = (answer : Refusal ItemPart Limit) × IsMachineRefusal lexed answer × Tells lexed answer refusal × (answer ≢ machine.Memory)
 
-of_unexpected : (lexed : Lexed) (n place : ℕ) (function : Bool) → slice_get (starts_of lexed.tokens) n ≡ Some place →
-    IsUnexpectedAt (marks_of lexed.tokens) n function → Machine lexed (unexpected function place)
-of_unexpected lexed n place function at (after, last, t, found, here, e) =
-    (machine.Unexpected n last, (after, found), (t, place, here, at, ap (λ b. unexpected b place) (sym e)), λ h. cc)
+-- a token with which no text begins is refused by the machine
+of_unexpected : (lexed : Lexed) (n offset : ℕ) (function : Bool) → slice_get (starts_of lexed.tokens) n ≡ Some offset →
+    IsUnexpectedAt (marks_of lexed.tokens) n function → Machine lexed (unexpected function offset)
+of_unexpected lexed n offset function at (after, last, t, found, here, e) =
+    (machine.Unexpected n last, (after, found), (t, offset, here, at, ap (λ b. unexpected b offset) (sym e)), λ h. cc)
 
 -- a refusal of the tokens is what some refusal of the machine is told as
 fault_told : (lexed : Lexed) (refusal : SyntaxRefusal) → SyntaxFault lexed refusal → Machine lexed refusal
-fault_told lexed (Unexpected place) (n, at, found) = of_unexpected lexed n place false at found
-fault_told lexed (FunctionTerm place) (n, at, found) = of_unexpected lexed n place true at found
-fault_told lexed (EndOfText place) (e, (after, early)) = (machine.EndsEarly, (after, early), ap EndOfText e, λ h. cc)
-fault_told lexed (TooDeep place) (n, at, stopped) = (machine.Stopped n limit.TooDeep, ([], stopped), (place, at, refl), λ h. cc)
-fault_told lexed (Role place) (n, at, stopped) = (machine.Stopped n limit.UnknownRole, ([], stopped), (place, at, refl), λ h. cc)
-fault_told lexed (FreeVariable place) (n, at, stopped) = (machine.Stopped n limit.FreeVariable, ([], stopped), (place, at, refl), λ h. cc)
+fault_told lexed (Unexpected offset) (n, at, found) = of_unexpected lexed n offset false at found
+fault_told lexed (FunctionTerm offset) (n, at, found) = of_unexpected lexed n offset true at found
+fault_told lexed (EndOfText offset) (e, (after, early)) = (machine.EndsEarly, (after, early), ap EndOfText e, λ h. cc)
+fault_told lexed (TooDeep offset) (n, at, stopped) = (machine.Stopped n limit.TooDeep, ([], stopped), (offset, at, refl), λ h. cc)
+fault_told lexed (Role offset) (n, at, stopped) = (machine.Stopped n limit.UnknownRole, ([], stopped), (offset, at, refl), λ h. cc)
+fault_told lexed (FreeVariable offset) (n, at, stopped) = (machine.Stopped n limit.FreeVariable, ([], stopped), (offset, at, refl), λ h. cc)
 fault_told lexed Memory fault = absurd fault
 
 -- one answer is told in one way
-told_once : (lexed : Lexed) (answer : Refusal Symbol Limit) (a b : SyntaxRefusal) → Tells lexed answer a → Tells lexed answer b → a ≡ b
+told_once : (lexed : Lexed) (answer : Refusal ItemPart Limit) (a b : SyntaxRefusal) → Tells lexed answer a → Tells lexed answer b → a ≡ b
 told_once lexed machine.Memory a b e f = e ∙ sym f
-told_once lexed (machine.Unexpected n last) a b (t, place, here, at, e) (u, other, there, also, f) =
+told_once lexed (machine.Unexpected n last) a b (t, offset, here, at, e) (u, other, there, also, f) =
     let same : t ≡ u = cc in
-    let one : place ≡ other = cc in
+    let one : offset ≡ other = cc in
     cc
-told_once lexed (machine.Stopped n why) a b (place, at, e) (other, also, f) =
-    let one : place ≡ other = cc in
+told_once lexed (machine.Stopped n why) a b (offset, at, e) (other, also, f) =
+    let one : offset ≡ other = cc in
     cc
 told_once lexed machine.EndsEarly a b e f = e ∙ sym f
 
-of_one : (a b : Refusal Symbol Limit) → AreOne {P = Symbol} {F = Limit} (Err a) (Err b) → a ≢ machine.Memory → b ≢ machine.Memory → a ≡ b
+-- two refusals that are one, but for want of memory, are the same
+of_one : (a b : Refusal ItemPart Limit) → AreOne {P = ItemPart} {F = Limit} (Err a) (Err b) → a ≢ machine.Memory → b ≢ machine.Memory → a ≡ b
 of_one machine.Memory b one some also = absurd (some refl)
 of_one (machine.Unexpected n last) machine.Memory one some also = absurd (also refl)
 of_one (machine.Unexpected n last) (machine.Unexpected m end) one some also = cc
@@ -97,19 +93,21 @@ of_one machine.EndsEarly (machine.Unexpected m end) one some also = cc
 of_one machine.EndsEarly (machine.Stopped m end) one some also = cc
 of_one machine.EndsEarly machine.EndsEarly one some also = refl
 
-none_accepted : (a : Refusal Symbol Limit) → a ≢ machine.Memory → AreOne {P = Symbol} {F = Limit} (Ok tt) (Err a) → ⊥
+-- what is accepted is not refused, but for want of memory
+none_accepted : (a : Refusal ItemPart Limit) → a ≢ machine.Memory → AreOne {P = ItemPart} {F = Limit} (Ok tt) (Err a) → ⊥
 none_accepted machine.Memory some one = some refl
 none_accepted (machine.Unexpected n last) some one = cc
 none_accepted (machine.Stopped n why) some one = cc
 none_accepted machine.EndsEarly some one = cc
 
 -- two refusals of the machine, neither of them want of memory, are one
-one_answer : (lexed : Lexed) (a b : Refusal Symbol Limit) → IsMachineRefusal lexed a → IsMachineRefusal lexed b →
+one_answer : (lexed : Lexed) (a b : Refusal ItemPart Limit) → IsMachineRefusal lexed a → IsMachineRefusal lexed b →
     a ≢ machine.Memory → b ≢ machine.Memory → a ≡ b
 one_answer lexed a b (after, first) (later, second) some also =
     of_one a b (agreement.answers_agree fof_items items_plan items_watcher items_law (computed_decided look) Items []
     (marks_of lexed.tokens) after later (Err a) (Err b) first second) some also
 
+-- two refusals of the same tokens are one
 pub one_fault : (lexed : Lexed) (a b : SyntaxRefusal) → SyntaxFault lexed a → SyntaxFault lexed b → a ≡ b
 one_fault lexed a b first second =
     let (x, refused, told, some) = fault_told lexed a first in

@@ -24,14 +24,17 @@ abbrev pub Then : {T : Type 0} → Shape T → (List T → Type 0) → Type 0
 Then {T = T} (one Q) goal = (t : T) → Q t → goal (t ∷ [])
 Then {T = T} (many Q) goal = (ts : List T) → Q ts → goal ts
 
+-- a token that fits has the property
 fitting : {T : Type 0} (s : Shape T) (t : T) → Fits s t → Holds s (t ∷ [])
 fitting (one Q) t h = (t, h, refl)
 fitting (many Q) t h = h
 
+-- where the property leads to the goal, tokens that have it reach the goal
 follows : {T : Type 0} (s : Shape T) (goal : List T → Type 0) → Then s goal → (ts : List T) → Holds s ts → goal ts
 follows (one Q) goal f ts (t, h, e) = subst goal (sym e) (f t h)
 follows (many Q) goal f ts h = f ts h
 
+-- tokens before none are all
 alone_in : {T : Type 0} (us rest ts : List T) → rest ≡ [] → ts ≡ us ++ rest → ts ≡ us
 alone_in us rest ts none e = e ∙ (ap (λ x. us ++ x) none ∙ append-nil us)
 
@@ -52,6 +55,7 @@ module _ {P T : Type 0} (shape : P → Shape T) where
   EachLeads p [] = Unit {0}
   EachLeads p (row ∷ rows) = Leads row (Holds (shape p)) × EachLeads p rows
 
+  -- where the properties of a row lead to the goal, tokens that have them reach it
   led : (row : List P) (goal : List T → Type 0) → Leads row goal → (ts : List T) → RowHolds row ts → goal ts
   led [] goal f ts e = subst goal (sym e) f
   led (p ∷ []) goal f ts (us, rest, h, none, e) = subst goal (sym (alone_in us rest ts none e)) (follows (shape p) goal f us h)
@@ -59,6 +63,7 @@ module _ {P T : Type 0} (shape : P → Shape T) where
       subst goal (sym e) (led (q ∷ row) (λ x. goal (us ++ x))
       (follows (shape p) (λ x. Leads (q ∷ row) (λ y. goal (x ++ y))) f us h) rest later)
 
+  -- tokens that have the properties of a row have that of its part
   part_holds : (p : P) (rows : List (List P)) → EachLeads p rows → (row : List P) → IsAmong row rows → (ts : List T) →
       RowHolds row ts → Holds (shape p) ts
   part_holds p [] each row among ts h = absurd among

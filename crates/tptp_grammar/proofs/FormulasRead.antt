@@ -5,20 +5,21 @@ use Rattle.std.proofs.Common.{ap, ◌∙◌, append_assoc, arith}
 use Rattle.std.proofs.lemmas.List.{length-append}
 use Rattle.logic_core.specs.declared.formula.Op.{Op}
 use Rattle.logic_core.specs.declared.formula.Op.TheVariants as op
-use Rattle.logic_core.specs.declared.formula.Formula.{Formula, And, Or, Binary}
+use Rattle.logic_core.specs.declared.formula.Formula.{Formula, Binary}
 use Rattle.tptp_lexer.specs.declared.kind.Kind.{Kind}
 use Rattle.tptp_lexer.specs.declared.kind.Kind.TheVariants as kind
 use Rattle.tptp_lexer.specs.Tokens.{Token}
 use Rattle.text_core.specs.declared.limits.TheConstants.{MOST_LEVELS}
 use Rattle.tptp_grammar.specs.Reading.{Read, behind, reread, more_from, rest_at, rest_from, below_at, inside_at, unit_at, formula_at}
-use Rattle.tptp_grammar.specs.Spells.{op_kind, SpellsFormula, SpellsRest, SpellsUnitary}
-use Rattle.tptp_grammar.specs.Spells.SpellsFormula.{alone, conjunction, disjunction, binary}
+use Rattle.tptp_grammar.specs.Spells.{op_kind, SpellsFormula, SpellsRest, SpellsUnitary, Chain, chain_kind, chain_of}
+use Rattle.tptp_grammar.specs.Spells.Chain.{conjunction, disjunction}
+use Rattle.tptp_grammar.specs.Spells.SpellsFormula.{alone, chain, binary}
 use Rattle.tptp_grammar.specs.Spells.SpellsRest.{end, further}
-use Rattle.tptp_grammar.specs.Spells.SpellsUnitary.{brackets, negation, for_all, there_is, truth, falsehood, atom, equation, inequality}
-use Rattle.tptp_grammar.proofs.Unfolded.{below_is, inside_is, unit_is, more-none, more-next}
+use Rattle.tptp_grammar.specs.Spells.SpellsUnitary.{brackets, negation, quantified, truth, atom, equation, inequality}
+use Rattle.tptp_grammar.proofs.ReaderSteps.{below_is, inside_is, unit_is, more-none, more-next}
 use Rattle.tptp_grammar.proofs.Endings.{behind-here, ends_unit, ends_formula, Ends, ends_at, formula_ends_unit, formula-alone, ampersand-none, bar-none}
 use Rattle.tptp_grammar.proofs.ListsRead.{longer}
-use Rattle.tptp_grammar.proofs.UnitsRead.{brackets_read, negation_read, for_all_read, there_is_read, truth_read, falsehood_read, atom_read, equation_read, inequality_read}
+use Rattle.tptp_grammar.proofs.UnitsRead.{brackets_read, negation_read, quantified_read, truth_read, atom_read, equation_read, inequality_read}
 
 -- a level that is opened leaves one less
 one_less : (level depth : ℕ) → level < MOST_LEVELS → level + depth ≡ MOST_LEVELS → (d : ℕ) × (depth ≡ suc d) × ((level + 1) + d ≡ MOST_LEVELS)
@@ -31,6 +32,7 @@ unit_first : (depth : ℕ) (g : Formula) (ts rest : List Token) → unit_at dept
 unfolding formula_at
 unit_first depth g ts rest read = ap (option_and_then (λ (read : Formula × List Token). rest_from (unit_at depth) read.0 read.1)) read
 
+-- the rest of a formula, by the kind of its first token
 rest_kind : (unit : List Token → Read Formula) (k : Kind) (g : Formula) (t : Token) (ts : List Token) → t.kind ≡ k →
     rest_from unit g (t ∷ ts) ≡ rest_at unit k g t ts
 unfolding rest_from
@@ -46,6 +48,7 @@ side_kind unit op.Xor g t ts = refl
 side_kind unit op.Nor g t ts = refl
 side_kind unit op.Nand g t ts = refl
 
+-- a connective ends the unit before it
 op_ends : (o : Op) → ends_unit (op_kind o) ≡ true
 op_ends op.Implies = refl
 op_ends op.Implied = refl
@@ -71,17 +74,33 @@ rest_ends end rest e ends = ends
 rest_ends (further {k = k} before us vs is s later split) rest e ends = rw split (ends_at ends_unit k before is e)
 
 -- a chain behind its first member, by the kind of its tokens
-chain_read : (depth : ℕ) (k : Kind) (joined : List Formula → Formula) → ((g : Formula) (t : Token) (ts : List Token) →
-    rest_at (unit_at depth) k g t ts ≡ reread (λ gs. joined (g ∷ gs)) (more_from (unit_at depth) k (length (t ∷ ts)) (t ∷ ts))) →
-    (g : Formula) (hs : List Formula) (us vs all rest : List Token) → (t : Token) × (ts : List Token) × (t.kind ≡ k) × (vs ≡ t ∷ ts) →
-    all ≡ us ++ vs → unit_at depth (us ++ (vs ++ rest)) ≡ Some (g, vs ++ rest) →
-    more_from (unit_at depth) k (length (vs ++ rest)) (vs ++ rest) ≡ Some (hs, rest) →
-    formula_at depth (all ++ rest) ≡ Some (joined (g ∷ hs), rest)
-chain_read depth k joined chained g hs us vs all rest begins split one others = let (t, ts, is, front) = begins in
-    rw (split, append_assoc us vs rest)
-    (unit_first depth g (us ++ (vs ++ rest)) (vs ++ rest) one ∙ rw front (rest_kind (unit_at depth) k g t (ts ++ rest) is ∙
-    (chained g t (ts ++ rest) ∙ ap (reread (λ gs. joined (g ∷ gs))) (rw front at others))))
+rest_chain : (unit : List Token → Read Formula) (c : Chain) (g : Formula) (t : Token) (ts : List Token) →
+    rest_at unit (chain_kind c) g t ts ≡ reread (λ gs. chain_of c (g ∷ gs)) (more_from unit (chain_kind c) (length (t ∷ ts)) (t ∷ ts))
+rest_chain unit conjunction g t ts = refl
+rest_chain unit disjunction g t ts = refl
 
+-- the sign of a chain ends the unit before it
+chain_ends : (c : Chain) → ends_unit (chain_kind c) ≡ true
+chain_ends conjunction = refl
+chain_ends disjunction = refl
+
+-- what ends a formula goes on with no chain
+chain_none : (c : Chain) (ts : List Token) → Ends ends_formula ts → behind (chain_kind c) ts ≡ None
+chain_none conjunction ts ends = ampersand-none ts ends
+chain_none disjunction ts ends = bar-none ts ends
+
+-- a chain that is spelled is read, where its members are
+chain_read : (depth : ℕ) (c : Chain) (g : Formula) (hs : List Formula) (us vs all rest : List Token) →
+    (t : Token) × (ts : List Token) × (t.kind ≡ chain_kind c) × (vs ≡ t ∷ ts) → all ≡ us ++ vs →
+    unit_at depth (us ++ (vs ++ rest)) ≡ Some (g, vs ++ rest) →
+    more_from (unit_at depth) (chain_kind c) (length (vs ++ rest)) (vs ++ rest) ≡ Some (hs, rest) →
+    formula_at depth (all ++ rest) ≡ Some (chain_of c (g ∷ hs), rest)
+chain_read depth c g hs us vs all rest begins split one others = let (t, ts, is, front) = begins in
+    rw (split, append_assoc us vs rest)
+    (unit_first depth g (us ++ (vs ++ rest)) (vs ++ rest) one ∙ rw front (rest_kind (unit_at depth) (chain_kind c) g t (ts ++ rest) is ∙
+    (rest_chain (unit_at depth) c g t (ts ++ rest) ∙ ap (reread (λ gs. chain_of c (g ∷ gs))) (rw front at others))))
+
+-- a connective that is spelled is read, where its sides are
 binary_read : (depth : ℕ) (o : Op) (g h : Formula) (us : List Token) (t : Token) (vs all rest : List Token) → t.kind ≡ op_kind o →
     all ≡ us ++ (t ∷ vs) → unit_at depth (us ++ (t ∷ (vs ++ rest))) ≡ Some (g, t ∷ (vs ++ rest)) →
     unit_at depth (vs ++ rest) ≡ Some (h, rest) → formula_at depth (all ++ rest) ≡ Some (Binary o g h, rest)
@@ -101,33 +120,33 @@ further_read depth most k g gs t us vs all rest is split one others =
     (more-next (unit_at depth) k most g gs (t ∷ (us ++ (vs ++ rest))) (us ++ (vs ++ rest)) (vs ++ rest) rest
     (behind-here k t (us ++ (vs ++ rest)) is) one others)
 
+-- further members take no more tokens than there are
 enough : (gs : List Formula) (vs rest : List Token) → length gs ≤ length vs → length gs ≤ length (vs ++ rest)
 enough gs vs rest few = let e = length-append vs rest in omega arith
 
+-- a closing bracket ends a formula
 closes_formula : (t : Token) → t.kind ≡ kind.CloseParenthesis → ends_formula t.kind ≡ true
 closes_formula t is = ends_at ends_formula kind.CloseParenthesis t is refl
 
 mutual
+  -- a formula that is spelled is read
   pub formula_read : {level : ℕ} {f : Formula} {us : List Token} → SpellsFormula level f us → (depth : ℕ) (rest : List Token) →
       level + depth ≡ MOST_LEVELS → Ends ends_formula rest → formula_at depth (us ++ rest) ≡ Some (f, rest)
   formula_read (alone {f = f} {ts = us} s) depth rest sum ends =
       unit_first depth f (us ++ rest) rest (unit_read s depth rest sum (formula_ends_unit rest ends)) ∙
       formula-alone (unit_at depth) f rest ends
-  formula_read (conjunction {all = all} g h gs us vs s r is split) depth rest sum ends =
+  formula_read (chain {all = all} c g h gs us vs s r is split) depth rest sum ends =
       let unit_end = formula_ends_unit rest ends in
-      rw is (chain_read depth kind.Ampersand And (λ g t ts. refl) g (h ∷ gs) us vs all rest (chain_begins r) split
-      (unit_read s depth (vs ++ rest) sum (rest_ends r rest refl unit_end))
-      (rest_read r depth (length (vs ++ rest)) rest sum (enough (h ∷ gs) vs rest (rest_few r)) refl unit_end (ampersand-none rest ends)))
-  formula_read (disjunction {all = all} g h gs us vs s r is split) depth rest sum ends =
-      let unit_end = formula_ends_unit rest ends in
-      rw is (chain_read depth kind.Bar Or (λ g t ts. refl) g (h ∷ gs) us vs all rest (chain_begins r) split
-      (unit_read s depth (vs ++ rest) sum (rest_ends r rest refl unit_end))
-      (rest_read r depth (length (vs ++ rest)) rest sum (enough (h ∷ gs) vs rest (rest_few r)) refl unit_end (bar-none rest ends)))
+      rw is (chain_read depth c g (h ∷ gs) us vs all rest (chain_begins r) split
+      (unit_read s depth (vs ++ rest) sum (rest_ends r rest (chain_ends c) unit_end))
+      (rest_read r depth (length (vs ++ rest)) rest sum (enough (h ∷ gs) vs rest (rest_few r)) (chain_ends c) unit_end
+      (chain_none c rest ends)))
   formula_read (binary {all = all} o g h us between vs s mark r is split) depth rest sum ends =
       rw is (binary_read depth o g h us between vs all rest mark split
       (unit_read s depth (between ∷ (vs ++ rest)) sum (ends_at ends_unit (op_kind o) between mark (op_ends o)))
       (unit_read r depth rest sum (formula_ends_unit rest ends)))
 
+  -- further members that are spelled are read
   rest_read : {k : Kind} {level : ℕ} {gs : List Formula} {us : List Token} → SpellsRest k level gs us → (depth most : ℕ)
       (rest : List Token) → level + depth ≡ MOST_LEVELS → length gs ≤ most → ends_unit k ≡ true → Ends ends_unit rest →
       behind k rest ≡ None → more_from (unit_at depth) k most (us ++ rest) ≡ Some (gs, rest)
@@ -139,6 +158,7 @@ mutual
       (unit_read s depth (vs ++ rest) sum (rest_ends later rest e ends))
       (rest_read later depth most rest sum fewer e ends apart)
 
+  -- a unit formula that is spelled is read
   unit_read : {level : ℕ} {f : Formula} {us : List Token} → SpellsUnitary level f us → (depth : ℕ) (rest : List Token) →
       level + depth ≡ MOST_LEVELS → Ends ends_unit rest → unit_at depth (us ++ rest) ≡ Some (f, rest)
   unit_read (brackets {level = level} {f = f} {all = all} first ts last less opens s closes split) depth rest sum ends =
@@ -151,20 +171,13 @@ mutual
       rw (is, f_is) (unit_is (suc d) (all ++ rest) ∙
       negation_read (below_at (suc d)) (inside_at (suc d)) g first all ts rest opens split
       (below_is d (ts ++ rest) ∙ unit_read s d rest left ends))
-  unit_read (for_all {level = level} {all = all} xs g first us colon vs less opens list mark s f_is split) depth rest sum ends =
+  unit_read (quantified {level = level} {all = all} q xs g first us colon vs less opens list mark s f_is split) depth rest sum ends =
       let (d, is, left) = one_less level depth less sum in
       rw (is, f_is) (unit_is (suc d) (all ++ rest) ∙
-      for_all_read (below_at (suc d)) (inside_at (suc d)) xs g first us colon vs all rest opens list mark split
+      quantified_read (below_at (suc d)) (inside_at (suc d)) q xs g first us colon vs all rest opens list mark split
       (below_is d (vs ++ rest) ∙ unit_read s d rest left ends))
-  unit_read (there_is {level = level} {all = all} xs g first us colon vs less opens list mark s f_is split) depth rest sum ends =
-      let (d, is, left) = one_less level depth less sum in
-      rw (is, f_is) (unit_is (suc d) (all ++ rest) ∙
-      there_is_read (below_at (suc d)) (inside_at (suc d)) xs g first us colon vs all rest opens list mark split
-      (below_is d (vs ++ rest) ∙ unit_read s d rest left ends))
-  unit_read (truth {all = all} t is text f_is split) depth rest sum ends =
-      rw f_is (unit_is depth (all ++ rest) ∙ truth_read (below_at depth) (inside_at depth) t all rest is text split)
-  unit_read (falsehood {all = all} t is text f_is split) depth rest sum ends =
-      rw f_is (unit_is depth (all ++ rest) ∙ falsehood_read (below_at depth) (inside_at depth) t all rest is text split)
+  unit_read (truth {all = all} value t is text f_is split) depth rest sum ends =
+      rw f_is (unit_is depth (all ++ rest) ∙ truth_read (below_at depth) (inside_at depth) value t all rest is text split)
   unit_read (atom {all = all} word arguments ts is s f_is split) depth rest sum ends =
       rw f_is (unit_is depth (all ++ rest) ∙ atom_read (below_at depth) (inside_at depth) word arguments ts all rest is s split ends)
   unit_read (equation {all = all} s u us between vs left mark right f_is split) depth rest sum ends =

@@ -4,6 +4,7 @@ use Rattle.std.proofs.Common.{refl, sym, ◌∙◌, inl, inr}
 use Rattle.std.proofs.lemmas.Bool.{false≢true}
 use Rattle.std.specs.Str.{bytes_eq}
 use Rattle.std.proofs.lemmas.Slice.Eq.{bytes_eq-Decides}
+use Rattle.text_core.proofs.Laws.{or_either}
 use Rattle.text_core.specs.Names.{Text}
 use Rattle.logic_core.specs.declared.problem.Role.{Role}
 use Rattle.tptp_lexer.specs.declared.kind.Kind.{Kind}
@@ -11,8 +12,9 @@ use Rattle.tptp_lexer.specs.declared.kind.Kind.TheVariants as kind
 use Rattle.tptp_lexer.specs.Tokens.{Token}
 use Rattle.tptp_grammar.specs.declared.mark.Mark.{Mark}
 use Rattle.tptp_grammar.specs.declared.mark.Mark.TheVariants.{Fof, Include, Role as RoleMark, Truth, Upper, Connective, Other}
-use Rattle.tptp_grammar.specs.Symbols.{same_kind, is_kind, is_lower, is_word, is_name, is_upper, is_plain}
-use Rattle.tptp_grammar.specs.Marks.{role_text, roles, role_of, role_mark, marked, mark_in}
+use Rattle.tptp_grammar.specs.Parts.{same_kind, is_kind, is_lower, is_word, is_name, is_upper, is_plain}
+use Rattle.tptp_grammar.specs.Roles.{role_text, roles, role_of}
+use Rattle.tptp_grammar.specs.Marks.{role_mark, marked, mark_in}
 use Rattle.tptp_grammar.specs.Spells.{op_kind, IsWord, IsNaming}
 
 -- the kind that a mark tells
@@ -39,6 +41,7 @@ pub record Tells (m : Mark) (t : Token) : Type 0 where
   pub kind : told_kind m ≡ t.kind
   pub text : TellsText m t.text
 
+-- a mark tells its token's kind
 kind_is_told : (ts : List Token) (k : Kind) (text : Text) → told_kind (marked ts k text) ≡ k
 kind_is_told ts kind.Lower text = lower (bytes_eq text (codes "fof")) (bytes_eq text (codes "include")) (role_of text)
   where
@@ -69,10 +72,12 @@ role_found text (role ∷ all) =
     first true e later h = e refl
     first false e later h = h
 
+-- the word of the role that is found
 role_is_told : (text : Text) → IfSome (role_of text) (λ role. text ≡ role_text role)
 unfolding role_of
 role_is_told text = role_found text roles
 
+-- a mark tells its token's text, if one
 text_is_told : (ts : List Token) (k : Kind) (text : Text) → TellsText (marked ts k text) text
 text_is_told ts kind.Lower text =
     lower (bytes_eq text (codes "fof")) (bytes_eq text (codes "include")) (role_of text)
@@ -96,9 +101,11 @@ text_is_told ts kind.Dollar text =
     dollar false false t f = tt
 text_is_told ts _ text = tt
 
+-- what a token's mark tells of it
 pub mark_tells : (ts : List Token) (t : Token) → Tells (mark_in ts t) t
 mark_tells ts t = record { kind = kind_is_told ts t.kind t.text; text = text_is_told ts t.kind t.text }
 
+-- kinds that pass the test are the same
 pub same_kind_is : (a b : Kind) → IsTrue (same_kind a b) → a ≡ b
 same_kind_is kind.Lower kind.Lower h = refl
 same_kind_is kind.Upper kind.Upper h = refl
@@ -128,14 +135,12 @@ same_kind_is kind.Equal kind.Equal h = refl
 same_kind_is kind.NotEqual kind.NotEqual h = refl
 same_kind_is _ _ h = absurd (false≢true h)
 
-either : (a b : Bool) → IsTrue (a || b) → IsTrue a ⊎ IsTrue b
-either true b h = inl refl
-either false b h = inr h
-
+-- a mark of a kind tells it
 kind_told : (k : Kind) (m : Mark) → IsTrue (is_kind k m) → told_kind m ≡ k
 kind_told k (Other other) h = sym (same_kind_is k other h)
 kind_told k _ h = absurd (false≢true h)
 
+-- a lower word's mark tells its kind
 lower_told : (m : Mark) → IsTrue (is_lower m) → told_kind m ≡ kind.Lower
 lower_told Fof h = refl
 lower_told Include h = refl
@@ -143,33 +148,39 @@ lower_told (RoleMark role) h = refl
 lower_told (Other kind.Lower) h = refl
 lower_told _ h = absurd (false≢true h)
 
+-- an upper word's mark tells its kind
 upper_told : (m : Mark) → IsTrue (is_upper m) → told_kind m ≡ kind.Upper
 upper_told (Upper number) h = refl
 upper_told _ h = absurd (false≢true h)
 
 -- what a test that the mark passes says of the token
 module _ (m : Mark) (t : Token) (tells : Tells m t) where
+  -- the token is of the kind
   pub kind_is : (k : Kind) → IsTrue (is_kind k m) → t.kind ≡ k
   kind_is k h = sym tells.kind ∙ kind_told k m h
 
+  -- the token is an upper word
   pub upper_is : IsTrue (is_upper m) → t.kind ≡ kind.Upper
   upper_is h = sym tells.kind ∙ upper_told m h
 
+  -- the token is a word
   pub word_is : IsTrue (is_word m) → IsWord t
-  word_is h = elim (either (is_lower m) (is_kind kind.Quoted m) h) [
+  word_is h = elim (or_either (is_lower m) (is_kind kind.Quoted m) h) [
     | inl lower ↦ inl (sym tells.kind ∙ lower_told m lower)
     | inr quoted ↦ inr (kind_is kind.Quoted quoted)
   ]
 
+  -- the token is a name
   pub name_is : IsTrue (is_name m) → IsNaming t
-  name_is h = elim (either (is_word m) (is_kind kind.Integer m) h) [
+  name_is h = elim (or_either (is_word m) (is_kind kind.Integer m) h) [
     | inl word ↦ inl (word_is word)
     | inr integer ↦ inr (kind_is kind.Integer integer)
   ]
 
+  -- the token is plain data
   pub plain_is : IsTrue (is_plain m) → (t.kind ≡ kind.Upper) ⊎ ((t.kind ≡ kind.Integer) ⊎ (t.kind ≡ kind.Distinct))
-  plain_is h = elim (either (is_upper m || is_kind kind.Integer m) (is_kind kind.Distinct m) h) [
-    | inl other ↦ elim (either (is_upper m) (is_kind kind.Integer m) other) [
+  plain_is h = elim (or_either (is_upper m || is_kind kind.Integer m) (is_kind kind.Distinct m) h) [
+    | inl other ↦ elim (or_either (is_upper m) (is_kind kind.Integer m) other) [
       | inl upper ↦ inl (upper_is upper)
       | inr integer ↦ inr (inl (kind_is kind.Integer integer))
     ]

@@ -1,5 +1,5 @@
 -- The tokens of a source are a text of items, or they have a refusal.
-use Rattle.std.specs.Prelude.{◌≡◌, ◌≢◌, ℕ, ◌<◌, ◌⊎◌, Bool, true, false, List, [], length, slice_get, option_map, Some, Result, Ok, Err}
+use Rattle.std.specs.Prelude.{◌≡◌, ◌≢◌, ℕ, ◌<◌, ◌⊎◌, List, [], length, slice_get, option_map, Some, Result, Ok, Err}
 use Rattle.std.proofs.Common.{inl, inr, refl, ap, ◌∙◌, arith}
 use Rattle.std.proofs.lemmas.List.{length-map}
 use Rattle.std.proofs.lemmas.Option.{slice_get-map, slice_get_cases}
@@ -9,22 +9,25 @@ use Rattle.token_grammar.specs.Answers.{IsAnswer}
 use Rattle.token_grammar.specs.Answered.{HasAnswer}
 use Rattle.token_grammar.specs.declared.refusal.Refusal.{Refusal}
 use Rattle.token_grammar.specs.declared.refusal.Refusal.TheVariants as machine
-use Rattle.token_grammar.proofs.Answered.{tokens_answered}
-use Rattle.token_grammar.proofs.Decided.{computed_decided}
-use Rattle.tptp_lexer.specs.Tokens.{Token, Lexed, AreTokens, starts_of}
+use Rattle.token_grammar.proofs.Laws.{tokens_answered}
+use Rattle.token_grammar.proofs.Laws.{computed_decided}
+use Rattle.tptp_lexer.specs.Tokens.{Token, AreTokens}
+use Rattle.tptp_lexer.specs.Columns.{starts_of}
 use Rattle.tptp_grammar.specs.declared.limit.Limit.{Limit}
-use Rattle.tptp_grammar.specs.declared.limit.Limit.TheVariants as limit
 use Rattle.tptp_grammar.specs.declared.refusal.SyntaxRefusal.{SyntaxRefusal}
 use Rattle.tptp_grammar.specs.declared.refusal.SyntaxRefusal.TheVariants.{EndOfText}
-use Rattle.tptp_grammar.specs.declared.symbol.Symbol.{Symbol}
-use Rattle.tptp_grammar.specs.declared.symbol.Symbol.TheVariants.{Items}
-use Rattle.tptp_grammar.specs.Symbols.{fof_items, items_plan}
-use Rattle.tptp_grammar.specs.SymbolsLaw.{items_law}
+use Rattle.tptp_grammar.specs.declared.item_part.ItemPart.{ItemPart}
+use Rattle.tptp_grammar.specs.declared.item_part.ItemPart.TheVariants.{Items}
+use Rattle.tptp_grammar.specs.Parts.{fof_items}
+use Rattle.tptp_grammar.specs.Plan.{items_plan}
+use Rattle.tptp_grammar.specs.PartsLaw.{items_law}
 use Rattle.tptp_grammar.specs.Limits.{Bindings, items_watcher, look}
 use Rattle.tptp_grammar.specs.Marks.{marks_of, mark_in}
-use Rattle.tptp_grammar.specs.Texts.{AreItemsOf, SyntaxFault, IsUnexpectedAt, IsStoppedAt, makes_function}
+use Rattle.tptp_grammar.specs.Texts.{SyntaxFault, makes_function}
+use Rattle.tptp_grammar.specs.Spells.{AreItemsOf}
 use Rattle.tptp_grammar.specs.Told.{unexpected, limited}
 use Rattle.tptp_grammar.proofs.Accepted.{text_of}
+use Rattle.tptp_grammar.proofs.Faults.{unexpected_told, stopped_told}
 
 -- the token whose mark has this number
 token_at : (ts : List Token) (n : ℕ) → n < length (marks_of ts) → (t : Token) × slice_get ts n ≡ Some t
@@ -41,19 +44,6 @@ start_at ts n t at = slice_get-map (λ (t : Token). t.start) ts n ∙ ap (option
 mark_at : (ts : List Token) (n : ℕ) (t : Token) → slice_get ts n ≡ Some t → slice_get (marks_of ts) n ≡ Some (mark_in ts t)
 mark_at ts n t at = slice_get-map (mark_in ts) ts n ∙ ap (option_map (mark_in ts)) at
 
--- an unexpected token is a fault, whether it would make a term with arguments or not
-unexpected_told : (lexed : Lexed) (n offset : ℕ) (function : Bool) → slice_get (starts_of lexed.tokens) n ≡ Some offset →
-    IsUnexpectedAt (marks_of lexed.tokens) n function → SyntaxFault lexed (unexpected function offset)
-unexpected_told lexed n offset true at found = (n, at, found)
-unexpected_told lexed n offset false at found = (n, at, found)
-
--- a token at which the watcher stops is a fault, whatever it finds
-stopped_told : (lexed : Lexed) (n offset : ℕ) (why : Limit) → slice_get (starts_of lexed.tokens) n ≡ Some offset →
-    IsStoppedAt (marks_of lexed.tokens) n why → SyntaxFault lexed (limited why offset)
-stopped_told lexed n offset limit.TooDeep at found = (n, at, found)
-stopped_told lexed n offset limit.UnknownRole at found = (n, at, found)
-stopped_told lexed n offset limit.FreeVariable at found = (n, at, found)
-
 module _ (source : Text) (ts : List Token) (are : AreTokens source ts) where
   -- they are a text of items, or they have a refusal
   abbrev HasReading : Type 0
@@ -61,7 +51,7 @@ module _ (source : Text) (ts : List Token) (are : AreTokens source ts) where
       ((fault : SyntaxRefusal) × SyntaxFault (record { source = source; tokens = ts }) fault)
 
   -- what an answer of the machine other than want of memory tells of the tokens
-  of_answer : (answer : Result (Unit {0}) (Refusal Symbol Limit)) (after : Bindings) → answer ≢ Err machine.Memory →
+  of_answer : (answer : Result (Unit {0}) (Refusal ItemPart Limit)) (after : Bindings) → answer ≢ Err machine.Memory →
       IsAnswer fof_items items_watcher Items [] (marks_of ts) after answer → HasReading
   of_answer (Ok done) after known accepted = inl (text_of source ts are (after, accepted))
   of_answer (Err machine.Memory) after known refused = absurd (known refl)

@@ -7,27 +7,30 @@ use Rattle.logic_core.specs.declared.formula.Term.TheVariants.{Variable, Constan
 use Rattle.tptp_lexer.specs.declared.kind.Kind.{Kind}
 use Rattle.tptp_lexer.specs.declared.kind.Kind.TheVariants as kind
 use Rattle.tptp_lexer.specs.Tokens.{Token, name_of}
-use Rattle.tptp_grammar.specs.declared.cursor.Naming.{Naming}
-use Rattle.tptp_grammar.specs.declared.cursor.Naming.TheVariants as naming
-use Rattle.tptp_grammar.specs.Symbols.{same_kind}
+use Rattle.tptp_grammar.specs.declared.name_reader.Naming.{Naming}
+use Rattle.tptp_grammar.specs.declared.name_reader.Naming.TheVariants as naming
+use Rattle.tptp_grammar.specs.Parts.{same_kind}
 use Rattle.tptp_grammar.specs.Reading.{Read, behind, with_front, more_from, listed_from, closed_by, may_name, name_from, names_from, term_at, term_from}
 use Rattle.tptp_grammar.specs.Spells.{IsWord, IsNaming, SpellsName, SpellsVariable, SpellsTerm, SpellsMore, SpellsListed, SpellsBetween, SpellsVariables}
 use Rattle.tptp_grammar.specs.Spells.SpellsMore.{none, more}
-use Rattle.tptp_grammar.proofs.Unfolded.{more-none, more-next}
+use Rattle.tptp_grammar.proofs.ReaderSteps.{more-none, more-next}
 use Rattle.tptp_grammar.proofs.Endings.{behind-here, behind-other}
 
--- a reader that reads what is spelled, whatever stands behind it
+-- a reader that reads what is spelled, whatever is behind it
 abbrev pub ReadsSpelled : {X : Type 0} → (X → List Token → Type 0) → (List Token → Read X) → Type 0
 ReadsSpelled {X = X} spells read = (x : X) (us rest : List Token) → spells x us → read (us ++ rest) ≡ Some (x, rest)
 
+-- a name is read where its token may be one
 name_here : (wanted : Naming) (t : Token) (rest : List Token) → may_name wanted t.kind ≡ true → name_from wanted (t ∷ rest) ≡ Some (name_of t, rest)
 unfolding name_from
 name_here wanted t rest may = ap (λ b. if b then Some (name_of t, rest) else None) may
 
+-- a name that is spelled is read
 name_read : (wanted : Naming) (P : Token → Type 0) → ((t : Token) → P t → may_name wanted t.kind ≡ true) →
     ReadsSpelled (SpellsName P) (name_from wanted)
 name_read wanted P may x us rest s = let (t, is, name, split) = s in rw (split, name) (name_here wanted t rest (may t is))
 
+-- a term that is spelled is read
 pub term_read : ReadsSpelled SpellsTerm term_from
 unfolding term_from
 term_read (Variable x) us rest s = let (t, is, name, split) = s in
@@ -50,6 +53,7 @@ module _ {X : Type 0} (spells : X → List Token → Type 0) where
   more_few (more {xs = xs} comma us vs is s later split) = rw split (longer us vs (length xs) (more_few later))
 
 module _ {X : Type 0} (spells : X → List Token → Type 0) (read : List Token → Read X) (reads : ReadsSpelled spells read) where
+  -- further values that are spelled are read
   more_read : {xs : List X} {us : List Token} → SpellsMore spells xs us → (most : ℕ) (rest : List Token) → length xs ≤ most →
       behind kind.Comma rest ≡ None → more_from read kind.Comma most (us ++ rest) ≡ Some (xs, rest)
   more_read none most rest few end = more-none read kind.Comma most rest end
@@ -60,6 +64,7 @@ module _ {X : Type 0} (spells : X → List Token → Type 0) (read : List Token 
       (more-next read kind.Comma most x xs (comma ∷ (us ++ (vs ++ rest))) (us ++ (vs ++ rest)) (vs ++ rest) rest
       (behind-here kind.Comma comma (us ++ (vs ++ rest)) is) (reads x us (vs ++ rest) s) (more_read later most rest fewer end))
 
+  -- values up to the closing bracket, by how the first and the further ones are read
   listed_step : (close : Kind) (x : X) (xs : List X) (last : Token) (ts behind_first rest : List Token) → last.kind ≡ close →
       read ts ≡ Some (x, behind_first) →
       more_from read kind.Comma (length behind_first) behind_first ≡ Some (xs, last ∷ rest) → listed_from read close ts ≡ Some (x ∷ xs, rest)
@@ -89,26 +94,33 @@ module _ {X : Type 0} (spells : X → List Token → Type 0) (read : List Token 
       (ap (option_and_then (listed_from read close)) (behind-here open_kind s.first (s.inner ++ (s.last ∷ rest)) s.opens) ∙
       listed_read close apart xs s.inner s.listed s.last s.closes rest)
 
+-- an upper word may be a variable's name
 variables_may : (t : Token) → t.kind ≡ kind.Upper → may_name naming.OfVariable t.kind ≡ true
 variables_may t is = ap (may_name naming.OfVariable) is
 
+-- a word or an integer may be a formula's name
 naming_may : (t : Token) → IsNaming t → may_name naming.OfFormula t.kind ≡ true
 naming_may t (inl (inl is)) = ap (may_name naming.OfFormula) is
 naming_may t (inl (inr is)) = ap (may_name naming.OfFormula) is
 naming_may t (inr is) = ap (may_name naming.OfFormula) is
 
+-- a quoted word may be a file's name
 file_may : (t : Token) → t.kind ≡ kind.Quoted → may_name naming.OfFile t.kind ≡ true
 file_may t is = ap (may_name naming.OfFile) is
 
+-- a variable that is spelled is read
 variable_read : ReadsSpelled SpellsVariable (name_from naming.OfVariable)
 variable_read = name_read naming.OfVariable (λ t. t.kind ≡ kind.Upper) variables_may
 
+-- a formula's name that is spelled is read
 naming_read : ReadsSpelled (SpellsName IsNaming) (name_from naming.OfFormula)
 naming_read = name_read naming.OfFormula IsNaming naming_may
 
+-- the name of a formula
 pub naming_here : (t : Token) (rest : List Token) → IsNaming t → name_from naming.OfFormula (t ∷ rest) ≡ Some (name_of t, rest)
 naming_here t rest is = name_here naming.OfFormula t rest (naming_may t is)
 
+-- the name of a file
 pub file_here : (t : Token) (rest : List Token) → t.kind ≡ kind.Quoted → name_from naming.OfFile (t ∷ rest) ≡ Some (name_of t, rest)
 file_here t rest is = name_here naming.OfFile t rest (file_may t is)
 

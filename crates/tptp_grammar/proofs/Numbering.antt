@@ -10,39 +10,42 @@ use Rattle.std.specs.List.{position_or_len}
 use Rattle.std.specs.Option.{option_map}
 use Rattle.std.specs.Str.{bytes_eq}
 use Rattle.text_core.specs.Names.{Text}
-use Rattle.token_grammar.proofs.Reading.{take-next}
+use Rattle.text_core.proofs.Laws.{take_next}
 use Rattle.tptp_lexer.specs.declared.kind.Kind.{Kind}
 use Rattle.tptp_lexer.specs.declared.kind.Kind.TheVariants.{Upper}
 use Rattle.tptp_lexer.specs.Kinds.{kind_of}
-use Rattle.tptp_lexer.specs.Tokens.{Token, kinds_of, texts_of, Reads, stop, blank, comment, token, IsEnd, AreTokens}
-use Rattle.tptp_lexer.proofs.Heads.{empty_kind}
+use Rattle.tptp_lexer.specs.Tokens.{Token, Reads, stop, blank, comment, token, IsEnd, AreTokens}
+use Rattle.tptp_lexer.specs.Columns.{kinds_of, texts_of}
+use Rattle.tptp_lexer.proofs.Laws.{empty_kind}
 use Rattle.tptp_grammar.specs.declared.mark.Mark.TheVariants.{Upper as UpperMark}
 use Rattle.tptp_grammar.specs.Marks.{marked, mark_in, marks_of, number_of}
 use Rattle.tptp_grammar.specs.Numbering.{AreNumbers}
 
--- the token at a place, from the kind and the text that stand there
+-- the token of a number, from the kind and the text that are there
 token_at : (ts : List Token) (n : ℕ) (kind : Kind) (text : Text) → slice_get (kinds_of ts) n ≡ Some kind →
     slice_get (texts_of ts) n ≡ Some text → (t : Token) × (slice_get ts n ≡ Some t) × (t.kind ≡ kind) × (t.text ≡ text)
 token_at [] n kind text k x = absurd (none-some _ k)
 token_at (t ∷ ts) zero kind text k x = (t, refl, same_Some _ _ k, same_Some _ _ x)
 token_at (t ∷ ts) (suc n) kind text k x = token_at ts n kind text k x
 
--- the first element that passes stands among those up to one that passes
-first_place : {X : Type 0} (p : X → Bool) (xs : List X) (n : ℕ) (x : X) → slice_get xs n ≡ Some x → p x ≡ true →
+-- the first element that passes is among those up to one that passes
+position_or_len_front : {X : Type 0} (p : X → Bool) (xs : List X) (n : ℕ) (x : X) → slice_get xs n ≡ Some x → p x ≡ true →
     position_or_len p (take n xs) ≡ position_or_len p xs
-first_place p [] n x h passes = absurd (none-some _ h)
-first_place p (y ∷ xs) zero x h passes = let same = same_Some _ _ h in let passed : p y ≡ true = ap p same ∙ passes in grind arith
-first_place p (y ∷ xs) (suc n) x h passes = ap (λ m. cond (not (p y)) (1 + m) 0) (first_place p xs n x h passes)
+position_or_len_front p [] n x h passes = absurd (none-some _ h)
+position_or_len_front p (y ∷ xs) zero x h passes = let same = same_Some _ _ h in let passed : p y ≡ true = ap p same ∙ passes in grind arith
+position_or_len_front p (y ∷ xs) (suc n) x h passes = ap (λ m. cond (not (p y)) (1 + m) 0) (position_or_len_front p xs n x h passes)
 
--- the first place, or the length
-place_or : {X : Type 0} (p : X → Bool) (xs : List X) (n : ℕ) → n ≤ length xs →
-    unwrap_or (position p (take n xs)) n ≡ position_or_len p (take n xs)
-place_or p xs n within =
-    let long : length (take n xs) ≡ n = length-take-le n xs within in
+-- the first number, where an element passes
+position_is : {X : Type 0} (p : X → Bool) (xs : List X) (n : ℕ) (x : X) → slice_get xs n ≡ Some x → p x ≡ true →
+    unwrap_or (position p xs) 0 ≡ position_or_len p xs
+position_is p xs n x h passes =
+    let within = slice_get_within xs n x h in
+    let long : length (take n xs) ≡ n = length-take-le n xs (omega arith) in
     let most = prefix_len-le-length (λ y. not (p y)) (take n xs) in
+    let front = position_or_len_front p xs n x h passes in
     grind (arith, nat_tests)
 
--- the first place among one element more
+-- the first number among one element more
 one_more : {X : Type 0} (p : X → Bool) (xs : List X) (n : ℕ) (x : X) → slice_get xs n ≡ Some x → position p (take (n + 1) xs)
     ≡ cond (is_some (position p (take n xs))) (position p (take n xs)) (cond (p x) (Some n) None)
 one_more p xs n x h =
@@ -50,7 +53,7 @@ one_more p xs n x h =
     let long : length (take n xs) ≡ n = length-take-le n xs (omega arith) in
     let most = prefix_len-le-length (λ y. not (p y)) (take n xs) in
     let push = position_or_len_push p (take n xs) x in
-    rw (take-next xs n x h) (grind (arith, nat_tests, length-append))
+    rw (take_next xs n x h) (grind (arith, nat_tests, length-append))
 
 -- it stays where that one does not pass
 stays : {X : Type 0} (p : X → Bool) (xs : List X) (n : ℕ) (x : X) → slice_get xs n ≡ Some x → p x ≡ false →
@@ -88,14 +91,12 @@ module _ (ts : List Token) (n : ℕ) (kind : Kind) (text : Text) (k : slice_get 
       (t : Token) × (slice_get ts n ≡ Some t) × (spells word t ≡ b)
   spells_there word b e = let t = token_at ts n kind text k x in (t.0, t.1, ap (λ bs. bytes_eq bs word) t.3 ∙ e)
 
-  -- an upper word gets its number
-  number_there : (number : Text → Option ℕ) → kind_of text ≡ Some Upper → AreNumbers (take n ts) number →
-      unwrap_or (number text) n ≡ number_of ts text
-  number_there number upper before =
+  -- an upper word has its number
+  number_there : (number : Text → Option ℕ) → kind_of text ≡ Some Upper → AreNumbers ts number →
+      unwrap_or (number text) 0 ≡ number_of ts text
+  number_there number upper are =
       let t = spells_there text true (nat_list_eq_equiv.refl text) in
-      let within = slice_get_within ts n t.0 t.1 in
-      ap (λ o. unwrap_or o n) (before text upper) ∙ place_or (spells text) ts n (omega arith)
-      ∙ first_place (spells text) ts n t.0 t.1 t.2
+      ap (λ o. unwrap_or o 0) (are text upper) ∙ position_is (spells text) ts n t.0 t.1 t.2
 
   -- the numbers stay at a word of another kind
   pub numbers_stay : (number : Text → Option ℕ) → slice_get (kinds_of ts) n ≡ kind_of text → (kind ≡ Upper → ⊥) →
@@ -109,10 +110,10 @@ module _ (ts : List Token) (n : ℕ) (kind : Kind) (text : Text) (k : slice_get 
 -- an upper word's mark has its number
 pub upper_mark : (ts : List Token) (n : ℕ) (text : Text) → slice_get (kinds_of ts) n ≡ Some Upper →
     slice_get (texts_of ts) n ≡ Some text → slice_get (kinds_of ts) n ≡ kind_of text → (number : Text → Option ℕ) →
-    AreNumbers (take n ts) number → (given : ℕ) → given ≡ unwrap_or (number text) n →
+    AreNumbers ts number → (given : ℕ) → given ≡ unwrap_or (number text) 0 →
     slice_get (marks_of ts) n ≡ Some (UpperMark given)
-upper_mark ts n text k x its number before given is =
-    let same = is ∙ number_there ts n Upper text k x number (sym its ∙ k) before in
+upper_mark ts n text k x its number are given is =
+    let same = is ∙ number_there ts n Upper text k x number (sym its ∙ k) are in
     mark_there ts n Upper text k x ∙ ap (λ m. Some (UpperMark m)) (sym same)
 
 -- the numbers with one upper word more
@@ -152,5 +153,6 @@ few_from left at bytes _ (token {ts = ts} kind text rest s l r) =
     let whole = ap length s ∙ length-append text rest in
     let some = has_byte kind text l.token in omega arith
 
+-- tokens of a source are no more than its bytes
 pub few_tokens : (bytes : Text) (ts : List Token) → AreTokens bytes ts → length ts ≤ length bytes
 few_tokens bytes ts r = few_from IsEnd 0 bytes ts r

@@ -15,10 +15,10 @@ use Rattle.tptp_lexer.specs.Tokens.{Token}
 use Rattle.text_core.specs.declared.limits.TheConstants.{MOST_LEVELS}
 use Rattle.tptp_grammar.specs.declared.mark.Mark.{Mark}
 use Rattle.tptp_grammar.specs.declared.mark.Mark.TheVariants as mark
-use Rattle.tptp_grammar.specs.declared.symbol.Symbol.{Symbol}
-use Rattle.tptp_grammar.specs.declared.symbol.Symbol.TheVariants as symbol
-use Rattle.tptp_grammar.specs.Symbols.{is_kind}
-use Rattle.tptp_grammar.specs.Marks.{role_text}
+use Rattle.tptp_grammar.specs.declared.item_part.ItemPart.{ItemPart}
+use Rattle.tptp_grammar.specs.declared.item_part.ItemPart.TheVariants as parts
+use Rattle.tptp_grammar.specs.Parts.{is_kind}
+use Rattle.tptp_grammar.specs.Roles.{role_text}
 use Rattle.tptp_grammar.specs.Spells.{IsWord, IsNaming, op_kind, SpellsName, SpellsVariable, SpellsTerm, SpellsMore, SpellsVariables, SpellsFormula, SpellsRest, SpellsUnitary, IsGeneral, IsGeneralList, AreGenerals, IsData, IsAnnotation, SpellsSelection, SpellsItem, SpellsItems}
 use Rattle.tptp_grammar.proofs.Folding.{Shape, Fits}
 use Rattle.tptp_grammar.proofs.Folding.Shape.{one, many}
@@ -77,47 +77,48 @@ EndsList inner ts = (level : ℕ) (first : Token) → inner ≡ level + 1 → le
     IsGeneralList level (first ∷ ts)
 
 -- the property of each part
-abbrev pub shape_of : Symbol → Shape Token
-shape_of (symbol.Token k) = one (λ t. t.kind ≡ k)
-shape_of symbol.FofWord = one (IsLowerWord (codes "fof"))
-shape_of symbol.IncludeWord = one (IsLowerWord (codes "include"))
-shape_of symbol.Name = one IsNaming
-shape_of symbol.RoleWord = one (λ t. (role : Role) × IsLowerWord (role_text role) t)
-shape_of symbol.Word = one IsWord
-shape_of symbol.TruthWord = one (λ t. (t.kind ≡ kind.Dollar) × ((t.text ≡ codes "$true") ⊎ (t.text ≡ codes "$false")))
-shape_of symbol.Connective = one (λ t. (o : Op) × (t.kind ≡ op_kind o))
-shape_of (symbol.Variable level) = one (λ t. t.kind ≡ kind.Upper)
-shape_of (symbol.Binds level) = one (λ t. t.kind ≡ kind.Upper)
-shape_of (symbol.Opens level k) = one (λ t. (t.kind ≡ k) × (level ≤ MOST_LEVELS))
-shape_of symbol.ClosesArguments = one (λ t. t.kind ≡ kind.CloseParenthesis)
-shape_of symbol.Plain = one (λ t. (t.kind ≡ kind.Upper) ⊎ ((t.kind ≡ kind.Integer) ⊎ (t.kind ≡ kind.Distinct)))
-shape_of symbol.Items = many (λ ts. (items : List Item) × SpellsItems items ts)
-shape_of symbol.Item = many (λ ts. (item : Item) × SpellsItem item ts)
-shape_of symbol.FofHead = many (EndsItem (codes "fof"))
-shape_of symbol.FofTail = many (Closes IsAnnotation)
-shape_of symbol.FofEnd = many EndsAnnotation
-shape_of symbol.IncludeHead = many (EndsItem (codes "include"))
-shape_of symbol.IncludeTail = many (λ ts. (only : Option (List Text)) × Closes (SpellsSelection only) ts)
-shape_of symbol.NamesRest = many (λ ts. (names : List Text) × SpellsMore (SpellsName IsNaming) names ts)
-shape_of (symbol.Formula level) = many (λ ts. (f : Formula) × SpellsFormula level f ts)
-shape_of (symbol.FormulaRest level) = many (EndsFormula level)
-shape_of (symbol.AndRest level) = many (λ ts. (gs : List Formula) × SpellsRest kind.Ampersand level gs ts)
-shape_of (symbol.OrRest level) = many (λ ts. (gs : List Formula) × SpellsRest kind.Bar level gs ts)
-shape_of (symbol.Unitary level) = many (λ ts. (f : Formula) × SpellsUnitary level f ts)
-shape_of (symbol.Quantified level) = many (Quantifies level)
-shape_of (symbol.BindsRest level) = many (λ ts. (xs : List Text) × SpellsMore SpellsVariable xs ts)
-shape_of (symbol.AfterWord level) = many (EndsAtom level)
-shape_of (symbol.Equation level) = many (EndsEquation level)
-shape_of (symbol.Term level) = many (λ ts. (s : Term) × SpellsTerm s ts)
-shape_of (symbol.TermsRest level) = many (λ ts. (ss : List Term) × SpellsMore SpellsTerm ss ts)
-shape_of (symbol.General level) = many (IsGeneral level)
-shape_of (symbol.GeneralRest level) = many (λ ts. (us : List Token) → IsData level us → IsGeneral level (us ++ ts))
-shape_of (symbol.GeneralsRest level) = many (AreGenerals level)
-shape_of (symbol.Data level) = many (IsData level)
-shape_of (symbol.DataArguments level) = many (λ ts. (word : Token) → IsWord word → IsData level (word ∷ ts))
-shape_of (symbol.List level) = many (IsGeneralList level)
-shape_of (symbol.ListBody level) = many (EndsList level)
+abbrev pub shape_of : ItemPart → Shape Token
+shape_of (parts.Token k) = one (λ t. t.kind ≡ k)
+shape_of parts.FofWord = one (IsLowerWord (codes "fof"))
+shape_of parts.IncludeWord = one (IsLowerWord (codes "include"))
+shape_of parts.Name = one IsNaming
+shape_of parts.RoleWord = one (λ t. (role : Role) × IsLowerWord (role_text role) t)
+shape_of parts.Word = one IsWord
+shape_of parts.TruthWord = one (λ t. (t.kind ≡ kind.Dollar) × ((t.text ≡ codes "$true") ⊎ (t.text ≡ codes "$false")))
+shape_of parts.Connective = one (λ t. (o : Op) × (t.kind ≡ op_kind o))
+shape_of (parts.Variable level) = one (λ t. t.kind ≡ kind.Upper)
+shape_of (parts.Binds level) = one (λ t. t.kind ≡ kind.Upper)
+shape_of (parts.Opens level k) = one (λ t. (t.kind ≡ k) × (level ≤ MOST_LEVELS))
+shape_of parts.ClosesArguments = one (λ t. t.kind ≡ kind.CloseParenthesis)
+shape_of parts.Plain = one (λ t. (t.kind ≡ kind.Upper) ⊎ ((t.kind ≡ kind.Integer) ⊎ (t.kind ≡ kind.Distinct)))
+shape_of parts.Items = many (λ ts. (items : List Item) × SpellsItems items ts)
+shape_of parts.Item = many (λ ts. (item : Item) × SpellsItem item ts)
+shape_of parts.FofHead = many (EndsItem (codes "fof"))
+shape_of parts.FofTail = many (Closes IsAnnotation)
+shape_of parts.FofEnd = many EndsAnnotation
+shape_of parts.IncludeHead = many (EndsItem (codes "include"))
+shape_of parts.IncludeTail = many (λ ts. (only : Option (List Text)) × Closes (SpellsSelection only) ts)
+shape_of parts.NamesRest = many (λ ts. (names : List Text) × SpellsMore (SpellsName IsNaming) names ts)
+shape_of (parts.Formula level) = many (λ ts. (f : Formula) × SpellsFormula level f ts)
+shape_of (parts.FormulaRest level) = many (EndsFormula level)
+shape_of (parts.AndRest level) = many (λ ts. (gs : List Formula) × SpellsRest kind.Ampersand level gs ts)
+shape_of (parts.OrRest level) = many (λ ts. (gs : List Formula) × SpellsRest kind.Bar level gs ts)
+shape_of (parts.Unitary level) = many (λ ts. (f : Formula) × SpellsUnitary level f ts)
+shape_of (parts.Quantified level) = many (Quantifies level)
+shape_of (parts.BindsRest level) = many (λ ts. (xs : List Text) × SpellsMore SpellsVariable xs ts)
+shape_of (parts.AfterWord level) = many (EndsAtom level)
+shape_of (parts.Equation level) = many (EndsEquation level)
+shape_of (parts.Term level) = many (λ ts. (s : Term) × SpellsTerm s ts)
+shape_of (parts.TermsRest level) = many (λ ts. (ss : List Term) × SpellsMore SpellsTerm ss ts)
+shape_of (parts.General level) = many (IsGeneral level)
+shape_of (parts.GeneralRest level) = many (λ ts. (us : List Token) → IsData level us → IsGeneral level (us ++ ts))
+shape_of (parts.GeneralsRest level) = many (AreGenerals level)
+shape_of (parts.Data level) = many (IsData level)
+shape_of (parts.DataArguments level) = many (λ ts. (word : Token) → IsWord word → IsData level (word ∷ ts))
+shape_of (parts.List level) = many (IsGeneralList level)
+shape_of (parts.ListBody level) = many (EndsList level)
 
+-- what is kept of a token that opens a level
 opens : (level : ℕ) (k : Kind) (m : Mark) → IsTrue (nat_le level MOST_LEVELS && is_kind k m) → IsTrue (is_kind k m) × (level ≤ MOST_LEVELS)
 opens level k m h = go (nat_le level MOST_LEVELS) refl h
   where
@@ -126,19 +127,19 @@ opens level k m h = go (nat_le level MOST_LEVELS) refl h
     go false e h = absurd (false≢true h)
 
 -- a token that a part keeps has the part's property
-pub token_fits : (p : Symbol) (m : Mark) (t : Token) → Tells m t → IsTrue (keeps p m) → Fits (shape_of p) t
-token_fits (symbol.Token k) m t tells h = kind_is m t tells k h
-token_fits symbol.FofWord mark.Fof t tells h = (sym tells.kind, tells.text)
-token_fits symbol.IncludeWord mark.Include t tells h = (sym tells.kind, tells.text)
-token_fits symbol.Name m t tells h = name_is m t tells h
-token_fits symbol.RoleWord (mark.Role role) t tells h = (role, (sym tells.kind, tells.text))
-token_fits symbol.Word m t tells h = word_is m t tells h
-token_fits symbol.TruthWord (mark.Truth true) t tells h = (sym tells.kind, inl tells.text)
-token_fits symbol.TruthWord (mark.Truth false) t tells h = (sym tells.kind, inr tells.text)
-token_fits symbol.Connective (mark.Connective o) t tells h = (o, sym tells.kind)
-token_fits (symbol.Variable level) m t tells h = upper_is m t tells h
-token_fits (symbol.Binds level) m t tells h = upper_is m t tells h
-token_fits (symbol.Opens level k) m t tells h = let (kept, low) = opens level k m h in (kind_is m t tells k kept, low)
-token_fits symbol.ClosesArguments m t tells h = kind_is m t tells kind.CloseParenthesis h
-token_fits symbol.Plain m t tells h = plain_is m t tells h
+pub token_fits : (p : ItemPart) (m : Mark) (t : Token) → Tells m t → IsTrue (keeps p m) → Fits (shape_of p) t
+token_fits (parts.Token k) m t tells h = kind_is m t tells k h
+token_fits parts.FofWord mark.Fof t tells h = (sym tells.kind, tells.text)
+token_fits parts.IncludeWord mark.Include t tells h = (sym tells.kind, tells.text)
+token_fits parts.Name m t tells h = name_is m t tells h
+token_fits parts.RoleWord (mark.Role role) t tells h = (role, (sym tells.kind, tells.text))
+token_fits parts.Word m t tells h = word_is m t tells h
+token_fits parts.TruthWord (mark.Truth true) t tells h = (sym tells.kind, inl tells.text)
+token_fits parts.TruthWord (mark.Truth false) t tells h = (sym tells.kind, inr tells.text)
+token_fits parts.Connective (mark.Connective o) t tells h = (o, sym tells.kind)
+token_fits (parts.Variable level) m t tells h = upper_is m t tells h
+token_fits (parts.Binds level) m t tells h = upper_is m t tells h
+token_fits (parts.Opens level k) m t tells h = let (kept, low) = opens level k m h in (kind_is m t tells k kept, low)
+token_fits parts.ClosesArguments m t tells h = kind_is m t tells kind.CloseParenthesis h
+token_fits parts.Plain m t tells h = plain_is m t tells h
 token_fits _ _ t tells h = absurd (false≢true h)

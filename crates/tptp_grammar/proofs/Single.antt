@@ -17,10 +17,11 @@ use Rattle.tptp_grammar.specs.declared.limit.Limit.{Limit}
 use Rattle.tptp_grammar.specs.declared.limit.Limit.TheVariants.{FreeVariable}
 use Rattle.tptp_grammar.specs.declared.mark.Mark.{Mark}
 use Rattle.tptp_grammar.specs.declared.mark.Mark.TheVariants.{Fof, Include, Role as RoleMark, Truth, Upper}
-use Rattle.tptp_grammar.specs.declared.symbol.Symbol.TheVariants as symbol
-use Rattle.tptp_grammar.specs.Symbols.{takes, is_kind, is_lower, is_word, is_name, is_plain, is_upper, same_kind}
+use Rattle.tptp_grammar.specs.declared.item_part.ItemPart.TheVariants as parts
+use Rattle.tptp_grammar.specs.Parts.{takes, is_kind, is_lower, is_word, is_name, is_plain, is_upper, same_kind}
 use Rattle.tptp_grammar.specs.Limits.{Bindings, open_at, is_bound, used, look}
-use Rattle.tptp_grammar.specs.Marks.{mark_in, marked, lower_mark, dollar_mark, role_mark, role_of, role_text, number_of}
+use Rattle.tptp_grammar.specs.Roles.{role_of, role_text}
+use Rattle.tptp_grammar.specs.Marks.{mark_in, marked, lower_mark, dollar_mark, role_mark, number_of}
 use Rattle.tptp_grammar.specs.Spells.{IsWord, IsNaming, op_kind}
 use Rattle.tptp_grammar.proofs.Agreement.{Agrees, agrees_with}
 use Rattle.tptp_grammar.proofs.Bindings.{lower_open}
@@ -39,6 +40,7 @@ is_other kind.Nor = false
 is_other kind.Nand = false
 is_other _ = true
 
+-- the mark of a kind that no other mark tells
 other_mark : (all : List Token) (k : Kind) (text : Text) → is_other k ≡ true → is_kind k (marked all k text) ≡ true
 other_mark all kind.Lower text other = absurd (cc)
 other_mark all kind.Dollar text other = absurd (cc)
@@ -52,49 +54,60 @@ other_mark all kind.Nand text other = absurd (cc)
 other_mark all _ text other = refl
 
 module _ (all : List Token) (t : Token) where
+  -- a token's mark, by its kind
   marked_as : (k : Kind) → t.kind ≡ k → mark_in all t ≡ marked all k t.text
   marked_as k e = ap (λ j. marked all j t.text) e
 
+  -- a part for such a kind takes its token
   pub takes_other : (k : Kind) → is_other k ≡ true → t.kind ≡ k → is_kind k (mark_in all t) ≡ true
   takes_other k other e = ap (is_kind k) (marked_as k e) ∙ other_mark all k t.text other
 
+  -- the mark of a lower word, by what its tests say
   is_lower_at : (a b : Bool) (role : Option Role) → is_lower (if a then Fof else (if b then Include else role_mark role)) ≡ true
   is_lower_at true b role = refl
   is_lower_at false true role = refl
   is_lower_at false false (Some role) = refl
   is_lower_at false false None = refl
 
+  -- the mark of a lower word is one
   is_lower_mark : is_lower (lower_mark t.text) ≡ true
   is_lower_mark = is_lower_at (bytes_eq t.text (codes "fof")) (bytes_eq t.text (codes "include")) (role_of t.text)
 
+  -- the mark of a word is one
   is_word_mark : IsWord t → is_word (mark_in all t) ≡ true
   is_word_mark (inl e) = ap is_word (marked_as kind.Lower e) ∙ ap (λ b. b || is_kind kind.Quoted (lower_mark t.text)) is_lower_mark
   is_word_mark (inr e) = ap is_word (marked_as kind.Quoted e)
 
+  -- the mark of a name is one
   is_name_mark : IsNaming t → is_name (mark_in all t) ≡ true
   is_name_mark (inl w) = ap (λ b. b || is_kind kind.Integer (mark_in all t)) (is_word_mark w)
   is_name_mark (inr e) = ap is_name (marked_as kind.Integer e)
 
+  -- the mark of plain data is one
   is_plain_mark : (t.kind ≡ kind.Upper) ⊎ ((t.kind ≡ kind.Integer) ⊎ (t.kind ≡ kind.Distinct)) → is_plain (mark_in all t) ≡ true
   is_plain_mark (inl e) = ap is_plain (marked_as kind.Upper e)
   is_plain_mark (inr (inl e)) = ap is_plain (marked_as kind.Integer e)
   is_plain_mark (inr (inr e)) = ap is_plain (marked_as kind.Distinct e)
 
-  takes_op : (o : Op) → t.kind ≡ op_kind o → takes symbol.Connective (mark_in all t) ≡ true
-  takes_op op.Implies e = ap (takes symbol.Connective) (marked_as kind.Implies e)
-  takes_op op.Implied e = ap (takes symbol.Connective) (marked_as kind.Implied e)
-  takes_op op.Iff e = ap (takes symbol.Connective) (marked_as kind.Iff e)
-  takes_op op.Xor e = ap (takes symbol.Connective) (marked_as kind.Xor e)
-  takes_op op.Nor e = ap (takes symbol.Connective) (marked_as kind.Nor e)
-  takes_op op.Nand e = ap (takes symbol.Connective) (marked_as kind.Nand e)
+  -- the mark of a connective is taken as one
+  takes_op : (o : Op) → t.kind ≡ op_kind o → takes parts.Connective (mark_in all t) ≡ true
+  takes_op op.Implies e = ap (takes parts.Connective) (marked_as kind.Implies e)
+  takes_op op.Implied e = ap (takes parts.Connective) (marked_as kind.Implied e)
+  takes_op op.Iff e = ap (takes parts.Connective) (marked_as kind.Iff e)
+  takes_op op.Xor e = ap (takes parts.Connective) (marked_as kind.Xor e)
+  takes_op op.Nor e = ap (takes parts.Connective) (marked_as kind.Nor e)
+  takes_op op.Nand e = ap (takes parts.Connective) (marked_as kind.Nand e)
 
+  -- the mark of a truth value is taken as one
   truth_mark : (value : Bool) (text : Text) → t.kind ≡ kind.Dollar → t.text ≡ text → dollar_mark text ≡ Truth value →
-      takes symbol.TruthWord (mark_in all t) ≡ true
-  truth_mark value text e f g = ap (takes symbol.TruthWord) (marked_as kind.Dollar e ∙ (ap dollar_mark f ∙ g))
+      takes parts.TruthWord (mark_in all t) ≡ true
+  truth_mark value text e f g = ap (takes parts.TruthWord) (marked_as kind.Dollar e ∙ (ap dollar_mark f ∙ g))
 
+  -- the mark of a lower word with this text
   word_mark : (m : Mark) (text : Text) → t.kind ≡ kind.Lower → t.text ≡ text → lower_mark text ≡ m → mark_in all t ≡ m
   word_mark m text e f g = marked_as kind.Lower e ∙ (ap lower_mark f ∙ g)
 
+-- the mark of a role's word
 role_marked : (role : Role) → lower_mark (role_text role) ≡ RoleMark role
 unfolding role_of
 role_marked Axiom = refl
@@ -118,6 +131,7 @@ passed_at f k j rest text false others h later e = only (f j) (later e)
     only true g = g
     only false g = g
 
+-- a text of a kind passes the test of one of its rows
 passed : (f : Kind → Bool) (k : Kind) (text : Text) (table : List (Kind × (Text → Bool))) → f k ≡ true → kind_among table text ≡ Some k →
     list_any (λ (row : Kind × (Text → Bool)). f row.0 && row.1 text) table ≡ true
 passed f k text [] h e = absurd (cc)
@@ -125,6 +139,7 @@ passed f k text (row ∷ table) h e =
     passed_at f k row.0 (kind_among table text) text (row.1 text) (list_any (λ (row : Kind × (Text → Bool)). f row.0 && row.1 text) table)
     h (passed f k text table h) e
 
+-- the text of an upper word is one
 pub upper_word : (text : Text) → kind_of text ≡ Some kind.Upper → is_upper_word text ≡ true
 unfolding kind_of
 upper_word text e = alone (is_upper_word text) (passed (λ k. same_kind k kind.Upper) kind.Upper text kinds refl e)
@@ -133,12 +148,15 @@ upper_word text e = alone (is_upper_word text) (passed (λ k. same_kind k kind.U
     alone true h = refl
     alone false h = absurd (cc)
 
+-- the name of an upper word is its text
 pub upper_name : (t : Token) → t.kind ≡ kind.Upper → name_of t ≡ t.text
 upper_name t e = ap (λ k. named k t.text) e
 
+-- a use of a bound variable passes
 use_passes : (n : ℕ) (bindings : Bindings) → is_bound n bindings ≡ true → used n bindings ≡ Ok bindings
 use_passes n bindings h = rw h refl
 
+-- a use that passes is of a bound variable, and changes nothing
 use_tells : (n : ℕ) (bindings after : Bindings) → used n bindings ≡ Ok after → (is_bound n bindings ≡ true) × (after ≡ bindings)
 use_tells n bindings after e = by (is_bound n bindings) refl e
   where
@@ -147,9 +165,11 @@ use_tells n bindings after e = by (is_bound n bindings) refl e
     by true h g = (h, sym (same_result bindings after g))
     by false h g = absurd (cc)
 
+-- a level is at most itself
 itself : (n : ℕ) → nat_le n n ≡ true
 itself n = grind arith
 
+-- the next level is not at most this one
 not_below : (n : ℕ) → nat_le (n + 1) n ≡ false
 not_below n = grind arith
 
@@ -157,60 +177,71 @@ not_below n = grind arith
 opens_here : (level n : ℕ) (s : Bindings) → open_at level (record { level = level; variable = n } ∷ s) ≡ record { level = level; variable = n } ∷ open_at level s
 opens_here level n s = rw (itself level) refl
 
+-- a binding at the next level is not open at this one
 opens_above : (level n : ℕ) (s : Bindings) → open_at level (record { level = level + 1; variable = n } ∷ s) ≡ open_at level s
 opens_above level n s = rw (not_below level) refl
 
 module _ (all : List Token) where
+  -- a token of a kind that no other mark tells
   pub token_of : {low high : ℕ} {scope : List Text} (k : Kind) (t : Token) → is_other k ≡ true → t.kind ≡ k →
-      Watching all (symbol.Token k ∷ []) low high (t ∷ []) scope scope (Unit {0})
-  token_of k t other e = plain all (symbol.Token k) t (takes_other all t k other e) (λ s. refl)
+      Watching all (parts.Token k ∷ []) low high (t ∷ []) scope scope (Unit {0})
+  token_of k t other e = plain all (parts.Token k) t (takes_other all t k other e) (λ s. refl)
 
+  -- the bracket behind an atom's arguments
   pub closes_of : {low high : ℕ} {scope : List Text} (t : Token) → t.kind ≡ kind.CloseParenthesis →
-      Watching all (symbol.ClosesArguments ∷ []) low high (t ∷ []) scope scope (Unit {0})
-  closes_of t e = plain all symbol.ClosesArguments t (takes_other all t kind.CloseParenthesis refl e) (λ s. refl)
+      Watching all (parts.ClosesArguments ∷ []) low high (t ∷ []) scope scope (Unit {0})
+  closes_of t e = plain all parts.ClosesArguments t (takes_other all t kind.CloseParenthesis refl e) (λ s. refl)
 
+  -- a word
   pub word_of : {low high : ℕ} {scope : List Text} (t : Token) → IsWord t →
-      Watching all (symbol.Word ∷ []) low high (t ∷ []) scope scope (Unit {0})
-  word_of t w = plain all symbol.Word t (is_word_mark all t w) (λ s. refl)
+      Watching all (parts.Word ∷ []) low high (t ∷ []) scope scope (Unit {0})
+  word_of t w = plain all parts.Word t (is_word_mark all t w) (λ s. refl)
 
+  -- a name
   pub naming_of : {low high : ℕ} {scope : List Text} (t : Token) → IsNaming t →
-      Watching all (symbol.Name ∷ []) low high (t ∷ []) scope scope (Unit {0})
-  naming_of t w = plain all symbol.Name t (is_name_mark all t w) (λ s. refl)
+      Watching all (parts.Name ∷ []) low high (t ∷ []) scope scope (Unit {0})
+  naming_of t w = plain all parts.Name t (is_name_mark all t w) (λ s. refl)
 
+  -- plain data
   pub plain_of : {low high : ℕ} {scope : List Text} (t : Token) → (t.kind ≡ kind.Upper) ⊎ ((t.kind ≡ kind.Integer) ⊎ (t.kind ≡ kind.Distinct)) →
-      Watching all (symbol.Plain ∷ []) low high (t ∷ []) scope scope (Unit {0})
-  plain_of t w = plain all symbol.Plain t (is_plain_mark all t w) (λ s. refl)
+      Watching all (parts.Plain ∷ []) low high (t ∷ []) scope scope (Unit {0})
+  plain_of t w = plain all parts.Plain t (is_plain_mark all t w) (λ s. refl)
 
+  -- a connective
   pub op_of : {low high : ℕ} {scope : List Text} (o : Op) (t : Token) → t.kind ≡ op_kind o →
-      Watching all (symbol.Connective ∷ []) low high (t ∷ []) scope scope (Unit {0})
-  op_of o t e = plain all symbol.Connective t (takes_op all t o e) (λ s. refl)
+      Watching all (parts.Connective ∷ []) low high (t ∷ []) scope scope (Unit {0})
+  op_of o t e = plain all parts.Connective t (takes_op all t o e) (λ s. refl)
 
+  -- a truth value
   pub truth_of : {low high : ℕ} {scope : List Text} (value : Bool) (text : Text) (t : Token) → t.kind ≡ kind.Dollar → t.text ≡ text →
-      dollar_mark text ≡ Truth value → Watching all (symbol.TruthWord ∷ []) low high (t ∷ []) scope scope (Unit {0})
-  truth_of value text t e f g = plain all symbol.TruthWord t (truth_mark all t value text e f g) (λ s. refl)
+      dollar_mark text ≡ Truth value → Watching all (parts.TruthWord ∷ []) low high (t ∷ []) scope scope (Unit {0})
+  truth_of value text t e f g = plain all parts.TruthWord t (truth_mark all t value text e f g) (λ s. refl)
 
+  -- the word `fof`
   pub fof_of : {low high : ℕ} {scope : List Text} (t : Token) → t.kind ≡ kind.Lower → t.text ≡ codes "fof" →
-      Watching all (symbol.FofWord ∷ []) low high (t ∷ []) scope scope (Unit {0})
-  fof_of t e f = plain all symbol.FofWord t (ap (takes symbol.FofWord) (word_mark all t Fof (codes "fof") e f refl)) (λ s. refl)
+      Watching all (parts.FofWord ∷ []) low high (t ∷ []) scope scope (Unit {0})
+  fof_of t e f = plain all parts.FofWord t (ap (takes parts.FofWord) (word_mark all t Fof (codes "fof") e f refl)) (λ s. refl)
 
+  -- the word `include`
   pub include_of : {low high : ℕ} {scope : List Text} (t : Token) → t.kind ≡ kind.Lower → t.text ≡ codes "include" →
-      Watching all (symbol.IncludeWord ∷ []) low high (t ∷ []) scope scope (Unit {0})
+      Watching all (parts.IncludeWord ∷ []) low high (t ∷ []) scope scope (Unit {0})
   include_of t e f =
-      plain all symbol.IncludeWord t (ap (takes symbol.IncludeWord) (word_mark all t Include (codes "include") e f refl)) (λ s. refl)
+      plain all parts.IncludeWord t (ap (takes parts.IncludeWord) (word_mark all t Include (codes "include") e f refl)) (λ s. refl)
 
+  -- a role
   pub role_of_token : {low high : ℕ} {scope : List Text} (role : Role) (t : Token) → t.kind ≡ kind.Lower → t.text ≡ role_text role →
-      Watching all (symbol.RoleWord ∷ []) low high (t ∷ []) scope scope (Unit {0})
+      Watching all (parts.RoleWord ∷ []) low high (t ∷ []) scope scope (Unit {0})
   role_of_token role t e f =
-      plain all symbol.RoleWord t (ap (takes symbol.RoleWord) told) (λ s. ap (look s symbol.RoleWord) told)
+      plain all parts.RoleWord t (ap (takes parts.RoleWord) told) (λ s. ap (look s parts.RoleWord) told)
     where
       told : mark_in all t ≡ RoleMark role
       told = word_mark all t (RoleMark role) (role_text role) e f (role_marked role)
 
   -- a variable in a term
   pub used_of : {level : ℕ} {scope : List Text} (t : Token) → t.kind ≡ kind.Upper →
-      Watching all (symbol.Variable level ∷ []) level level (t ∷ []) scope scope (IsAmong t.text scope × IsTrue (is_upper_word t.text))
+      Watching all (parts.Variable level ∷ []) level level (t ∷ []) scope scope (IsAmong t.text scope × IsTrue (is_upper_word t.text))
   used_of {level = level} {scope = scope} t e = record {
-    takers = symbol.Variable level ∷ [];
+    takers = parts.Variable level ∷ [];
     taken = token (ap is_upper told) (stop tt);
     keeps = kept;
     agrees = λ before after goes agree. subst (λ s. Agrees all s scope) (sym (kept before after goes)) agree;
@@ -226,23 +257,23 @@ module _ (all : List Token) where
       told : mark_in all t ≡ Upper (number_of all t.text)
       told = marked_as all t kind.Upper e
 
-      looks : (s : Bindings) → look s (symbol.Variable level) (mark_in all t) ≡ used (number_of all t.text) (open_at level s)
-      looks s = ap (look s (symbol.Variable level)) told
+      looks : (s : Bindings) → look s (parts.Variable level) (mark_in all t) ≡ used (number_of all t.text) (open_at level s)
+      looks s = ap (look s (parts.Variable level)) told
 
-      tells_use : (before after : Bindings) → Goes all before (symbol.Variable level ∷ []) (t ∷ []) after →
+      tells_use : (before after : Bindings) → Goes all before (parts.Variable level ∷ []) (t ∷ []) after →
           (is_bound (number_of all t.text) (open_at level before) ≡ true) × (after ≡ open_at level before)
       tells_use before after goes =
           let (bound, same) = use_tells (number_of all t.text) (open_at level before) goes.0 (sym (looks before) ∙ goes.1) in
           (bound, goes.2 ∙ same)
 
-      kept : (before after : Bindings) → Goes all before (symbol.Variable level ∷ []) (t ∷ []) after → open_at level after ≡ open_at level before
+      kept : (before after : Bindings) → Goes all before (parts.Variable level ∷ []) (t ∷ []) after → open_at level after ≡ open_at level before
       kept before after goes = ap (open_at level) (tells_use before after goes).1 ∙ lower_open level level before (omega arith)
 
   -- a variable in a quantifier's list
   pub bound_of : {level : ℕ} {scope : List Text} (t : Token) → t.kind ≡ kind.Upper →
-      Watching all (symbol.Binds (level + 1) ∷ []) level (level + 1) (t ∷ []) scope (t.text ∷ scope) (IsTrue (is_upper_word t.text))
+      Watching all (parts.Binds (level + 1) ∷ []) level (level + 1) (t ∷ []) scope (t.text ∷ scope) (IsTrue (is_upper_word t.text))
   bound_of {level = level} {scope = scope} t e = record {
-    takers = symbol.Binds (level + 1) ∷ [];
+    takers = parts.Binds (level + 1) ∷ [];
     taken = token (ap is_upper told) (stop tt);
     keeps = λ before after goes.
         ap (open_at level) (binds before after goes) ∙ opens_above level (number_of all t.text) before;
@@ -260,8 +291,8 @@ module _ (all : List Token) where
       with_it : Bindings → Bindings
       with_it s = record { level = level + 1; variable = number_of all t.text } ∷ s
 
-      looks : (s : Bindings) → look s (symbol.Binds (level + 1)) (mark_in all t) ≡ Ok (with_it s)
-      looks s = ap (look s (symbol.Binds (level + 1))) told
+      looks : (s : Bindings) → look s (parts.Binds (level + 1)) (mark_in all t) ≡ Ok (with_it s)
+      looks s = ap (look s (parts.Binds (level + 1))) told
 
-      binds : (before after : Bindings) → Goes all before (symbol.Binds (level + 1) ∷ []) (t ∷ []) after → after ≡ with_it before
+      binds : (before after : Bindings) → Goes all before (parts.Binds (level + 1) ∷ []) (t ∷ []) after → after ≡ with_it before
       binds before after goes = goes.2 ∙ same_result goes.0 (with_it before) (sym goes.1 ∙ looks before)

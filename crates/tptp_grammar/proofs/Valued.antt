@@ -1,5 +1,5 @@
 -- Tokens that are a text, and in which the watcher finds nothing, are spelled by some items.
-use Rattle.std.specs.Prelude.{◌≡◌, ℕ, ◌+◌, ◌<◌, ◌≤◌, true, ◌⊎◌, List, [], ◌∷◌, ◌++◌, Option, Some, None, codes}
+use Rattle.std.specs.Prelude.{◌≡◌, ℕ, ◌+◌, ◌<◌, ◌≤◌, true, false, ◌⊎◌, List, [], ◌∷◌, ◌++◌, Option, Some, None, codes}
 use Rattle.std.proofs.Common.{refl, sym, ap, subst, inl, inr, append_assoc, append-nil, arith}
 use Rattle.token_grammar.specs.Taken.{Taken}
 use Rattle.token_grammar.specs.Watch.{Sees}
@@ -14,16 +14,19 @@ use Rattle.tptp_lexer.specs.declared.kind.Kind.{Kind}
 use Rattle.tptp_lexer.specs.declared.kind.Kind.TheVariants as kind
 use Rattle.tptp_lexer.specs.Tokens.{Token, name_of}
 use Rattle.text_core.specs.declared.limits.TheConstants.{MOST_LEVELS}
-use Rattle.tptp_grammar.specs.declared.symbol.Symbol.{Symbol}
-use Rattle.tptp_grammar.specs.declared.symbol.Symbol.TheVariants as symbol
-use Rattle.tptp_grammar.specs.Symbols.{alternatives, fof_items}
-use Rattle.tptp_grammar.specs.Marks.{role_text, mark_in, marks_of}
+use Rattle.tptp_grammar.specs.declared.item_part.ItemPart.{ItemPart}
+use Rattle.tptp_grammar.specs.declared.item_part.ItemPart.TheVariants as parts
+use Rattle.tptp_grammar.specs.Parts.{alternatives, fof_items}
+use Rattle.tptp_grammar.specs.Roles.{role_text}
+use Rattle.tptp_grammar.specs.Marks.{mark_in, marks_of}
 use Rattle.tptp_grammar.specs.Limits.{Bindings, items_watcher}
 use Rattle.tptp_grammar.specs.Spells.{IsNaming, SpellsName, SpellsVariable, SpellsTerm, SpellsMore, SpellsBetween, SpellsFormula, SpellsUnitary, IsGeneral, AreGenerals, IsAnnotation, SpellsSelection, SpellsItems}
+use Rattle.tptp_grammar.specs.Spells.Quantifier.{for_all, there_is}
+use Rattle.tptp_grammar.specs.Spells.Chain.{conjunction, disjunction}
 use Rattle.tptp_grammar.specs.Spells.SpellsMore.{none, more}
-use Rattle.tptp_grammar.specs.Spells.SpellsFormula.{alone, conjunction, disjunction, binary}
+use Rattle.tptp_grammar.specs.Spells.SpellsFormula.{alone, chain, binary}
 use Rattle.tptp_grammar.specs.Spells.SpellsRest.{end, further}
-use Rattle.tptp_grammar.specs.Spells.SpellsUnitary.{brackets, negation, for_all, there_is, truth, falsehood, atom, equation, inequality}
+use Rattle.tptp_grammar.specs.Spells.SpellsUnitary.{brackets, negation, quantified, truth, atom, equation, inequality}
 use Rattle.tptp_grammar.specs.Spells.IsGeneral.{data_alone, data_with, in_list}
 use Rattle.tptp_grammar.specs.Spells.IsGeneralList.{empty_list, whole_list}
 use Rattle.tptp_grammar.specs.Spells.AreGenerals.{no_general, next_general}
@@ -34,6 +37,7 @@ use Rattle.tptp_grammar.proofs.Shapes.{IsLowerWord, EndsItem, Closes, EndsAtom, 
 use Rattle.tptp_grammar.proofs.Inversion.{mark_tells}
 use Rattle.tptp_grammar.proofs.Keeping.{kept_items, kept_text}
 
+-- a level that is opened has one below the most
 below : (level : ℕ) → level + 1 ≤ MOST_LEVELS → level < MOST_LEVELS
 below level low = omega arith
 
@@ -105,7 +109,7 @@ include_behind first quoted tail only o q t word w = (
   },
 )
 
--- the end of an item behind what stands in front of it
+-- the end of an item behind what is in front of it
 closed : (P : List Token → Type 0) (front ts : List Token) (last dot : Token) → P front → last.kind ≡ kind.CloseParenthesis →
     dot.kind ≡ kind.Dot → ts ≡ front ++ (last ∷ dot ∷ []) → Closes P ts
 closed P front ts last dot h c d e = record { front = front; last = last; dot = dot; is_front = h; closes = c; is_dot = d; split = e }
@@ -134,19 +138,19 @@ atom_behind level first us ts last s ss o is rest c word w = (
 )
 
 -- what the members of an alternative make
-made : (p : Symbol) → EachLeads shape_of p (alternatives p)
-made symbol.Items = (([], refl), (λ us item vs items. (item.0 ∷ items.0, (us, vs, item.1, items.1, refl)), tt))
-made symbol.Item = (λ word is ts rest. rest word is, (λ word is ts rest. rest word is, tt))
-made symbol.FofHead = (
+made : (p : ItemPart) → EachLeads shape_of p (alternatives p)
+made parts.Items = (([], refl), (λ us item vs items. (item.0 ∷ items.0, (us, vs, item.1, items.1, refl)), tt))
+made parts.Item = (λ word is ts rest. rest word is, (λ word is ts rest. rest word is, tt))
+made parts.FofHead = (
   λ first o name n comma c role r between k formula f tail t.
       fof_behind first name comma role between formula tail r.0 f.0 o n c r.1 k f.1 t,
   tt,
 )
-made symbol.FofTail = (
+made parts.FofTail = (
   λ last c dot d. closed IsAnnotation [] (last ∷ dot ∷ []) last dot no_annotation c d refl,
   (λ comma c us g ts rest. rest comma us c g, tt),
 )
-made symbol.FofEnd = (
+made parts.FofEnd = (
   λ last l dot d comma us c g. closed IsAnnotation (comma ∷ us) (comma ∷ (us ++ (last ∷ dot ∷ []))) last dot
       (source_alone comma us c g refl) l d refl,
   (
@@ -157,8 +161,8 @@ made symbol.FofEnd = (
     tt,
   ),
 )
-made symbol.IncludeHead = (λ first o quoted q tail t. include_behind first quoted tail t.0 o q t.1, tt)
-made symbol.IncludeTail = (
+made parts.IncludeHead = (λ first o quoted q tail t. include_behind first quoted tail t.0 o q t.1, tt)
+made parts.IncludeTail = (
   λ last c dot d. (None, closed (SpellsSelection None) [] (last ∷ dot ∷ []) last dot refl c d refl),
   (
     λ comma c first o name n ts rest close k last l dot d.
@@ -166,37 +170,37 @@ made symbol.IncludeTail = (
     tt,
   ),
 )
-made symbol.NamesRest =
+made parts.NamesRest =
     (([], none), (λ comma c name n ts rest. (name_of name ∷ rest.0, more comma (name ∷ []) ts c (name, n, refl, refl) rest.1 refl), tt))
-made (symbol.Formula level) = (λ us u ts rest. rest u.0 us u.1, tt)
-made (symbol.FormulaRest level) = (
+made (parts.Formula level) = (λ us u ts rest. rest u.0 us u.1, tt)
+made (parts.FormulaRest level) = (
   λ g us u. (g, subst (SpellsFormula level g) (sym (append-nil us)) (alone u)),
   (
     λ sign k vs h ws rest g us u.
-        (And (g ∷ h.0 ∷ rest.0), conjunction g h.0 rest.0 us (sign ∷ (vs ++ ws)) u (further sign vs ws k h.1 rest.1 refl) refl refl),
+        (And (g ∷ h.0 ∷ rest.0), chain conjunction g h.0 rest.0 us (sign ∷ (vs ++ ws)) u (further sign vs ws k h.1 rest.1 refl) refl refl),
     (
       λ sign k vs h ws rest g us u.
-          (Or (g ∷ h.0 ∷ rest.0), disjunction g h.0 rest.0 us (sign ∷ (vs ++ ws)) u (further sign vs ws k h.1 rest.1 refl) refl refl),
+          (Or (g ∷ h.0 ∷ rest.0), chain disjunction g h.0 rest.0 us (sign ∷ (vs ++ ws)) u (further sign vs ws k h.1 rest.1 refl) refl refl),
       (λ between o vs h g us u. (Binary o.0 g h.0, binary o.0 g h.0 us between vs u o.1 h.1 refl refl), tt),
     ),
   ),
 )
-made (symbol.AndRest level) = (([], end), (λ sign k us g ts rest. (g.0 ∷ rest.0, further sign us ts k g.1 rest.1 refl), tt))
-made (symbol.OrRest level) = (([], end), (λ sign k us g ts rest. (g.0 ∷ rest.0, further sign us ts k g.1 rest.1 refl), tt))
-made (symbol.Unitary level) = (
+made (parts.AndRest level) = (([], end), (λ sign k us g ts rest. (g.0 ∷ rest.0, further sign us ts k g.1 rest.1 refl), tt))
+made (parts.OrRest level) = (([], end), (λ sign k us g ts rest. (g.0 ∷ rest.0, further sign us ts k g.1 rest.1 refl), tt))
+made (parts.Unitary level) = (
   λ first o ts f last c. (f.0, brackets first ts last (below level o.1) o.0 f.1 c refl),
   (
     λ first o ts g. (Not g.0, negation g.0 first ts (below level o.1) o.0 g.1 refl refl),
     (
       λ first o ts q. (
         ForAll q.variables q.body,
-        for_all q.variables q.body first q.us q.colon q.vs (below level o.1) o.0 q.are_variables
+        quantified for_all q.variables q.body first q.us q.colon q.vs (below level o.1) o.0 q.are_variables
             q.is_colon q.is_body refl (ap (λ y. first ∷ y) q.split),
       ),
       (
         λ first o ts q. (
           Exists q.variables q.body,
-          there_is q.variables q.body first q.us q.colon q.vs (below level o.1) o.0 q.are_variables
+          quantified there_is q.variables q.body first q.us q.colon q.vs (below level o.1) o.0 q.are_variables
               q.is_colon q.is_body refl (ap (λ y. first ∷ y) q.split),
         ),
         (
@@ -213,9 +217,9 @@ made (symbol.Unitary level) = (
   where
     truth_made : (t : Token) → (t.kind ≡ kind.Dollar) × ((t.text ≡ codes "$true") ⊎ (t.text ≡ codes "$false")) →
         (f : Formula) × SpellsUnitary level f (t ∷ [])
-    truth_made t (k, inl text) = (True, truth t k text refl refl)
-    truth_made t (k, inr text) = (False, falsehood t k text refl refl)
-made (symbol.Quantified level) = (
+    truth_made t (k, inl text) = (True, truth true t k text refl refl)
+    truth_made t (k, inr text) = (False, truth false t k text refl refl)
+made (parts.Quantified level) = (
   λ first o t x ts rest last c colon k vs g. record {
     variables = name_of t ∷ rest.0;
     body = g.0;
@@ -230,9 +234,9 @@ made (symbol.Quantified level) = (
   },
   tt,
 )
-made (symbol.BindsRest level) =
+made (parts.BindsRest level) =
     (([], none), (λ comma c t x ts rest. (name_of t ∷ rest.0, more comma (t ∷ []) ts c (t, x, refl, refl) rest.1 refl), tt))
-made (symbol.AfterWord level) = (
+made (parts.AfterWord level) = (
   λ word w. (Pred (name_of word) [], atom word [] [] w refl refl refl),
   (
     λ first o us s ts rest last c. atom_behind level first us ts last s.0 rest.0 o s.1 rest.1 c,
@@ -251,27 +255,27 @@ made (symbol.AfterWord level) = (
     ),
   ),
 )
-made (symbol.Equation level) = (
+made (parts.Equation level) = (
   λ between k vs u s us h. (Equal s u.0, equation s u.0 us between vs h k u.1 refl refl),
   (λ between k vs u s us h. (Not (Equal s u.0), inequality s u.0 us between vs h k u.1 refl refl), tt),
 )
-made (symbol.Term level) =
+made (parts.Term level) =
     (λ t x. (Variable (name_of t), (t, x, refl, refl)), (λ t w. (Constant (name_of t), (t, w, refl, refl)), tt))
-made (symbol.TermsRest level) =
+made (parts.TermsRest level) =
     (([], none), (λ comma c us s ts rest. (s.0 ∷ rest.0, more comma us ts c s.1 rest.1 refl), tt))
-made (symbol.General level) = (λ us d ts rest. rest us d, (λ ts list. in_list list, tt))
-made (symbol.GeneralRest level) = (
+made (parts.General level) = (λ us d ts rest. rest us d, (λ ts list. in_list list, tt))
+made (parts.GeneralRest level) = (
   λ us d. subst (IsGeneral level) (sym (append-nil us)) (data_alone d),
   (λ colon k vs g us d. data_with us colon vs d k g refl, tt),
 )
-made (symbol.GeneralsRest level) = (no_general, (λ comma c us g ts rest. next_general comma us ts c g rest refl, tt))
-made (symbol.Data level) = (λ t p. plain t p refl, (λ word w ts rest. rest word w, tt))
-made (symbol.DataArguments level) = (
+made (parts.GeneralsRest level) = (no_general, (λ comma c us g ts rest. next_general comma us ts c g rest refl, tt))
+made (parts.Data level) = (λ t p. plain t p refl, (λ word w ts rest. rest word w, tt))
+made (parts.DataArguments level) = (
   λ word w. word_alone word w refl,
   (λ first o us g vs gs last c word w. word_with word first us vs last w (below level o.1) o.0 g gs c refl, tt),
 )
-made (symbol.List level) = (λ first o ts rest. rest level first refl (below level o.1) o.0, tt)
-made (symbol.ListBody inner) = (
+made (parts.List level) = (λ first o ts rest. rest level first refl (below level o.1) o.0, tt)
+made (parts.ListBody inner) = (
   λ last c level first e low o. empty_list first last low o c refl,
   (
     λ us g vs gs last c level first e low o.
@@ -282,9 +286,9 @@ made (symbol.ListBody inner) = (
 made _ = tt
 
 -- a text in which the watcher finds nothing is spelled by some items
-pub items_spelled : (ts : List Token) (takers : List Symbol) (after : Bindings) →
-    Taken fof_items true (symbol.Items ∷ []) (marks_of ts) takers → Sees items_watcher [] takers (marks_of ts) after →
+pub items_spelled : (ts : List Token) (takers : List ItemPart) (after : Bindings) →
+    Taken fof_items true (parts.Items ∷ []) (marks_of ts) takers → Sees items_watcher [] takers (marks_of ts) after →
     (items : List Item) × SpellsItems items ts
 items_spelled ts takers after taken seen =
-    text_holds shape_of (kept_items ts) (λ p t h. token_fits p (mark_in ts t) t (mark_tells ts t) h) made symbol.Items ts
+    text_holds shape_of (kept_items ts) (λ p t h. token_fits p (mark_in ts t) t (mark_tells ts t) h) made parts.Items ts
     (kept_text ts takers after taken seen)

@@ -1,8 +1,10 @@
-pub mod Symbols
-pub mod SymbolsLaw
+pub mod Parts
+pub mod Plan
+pub mod PartsLaw
 pub mod Printed
 pub mod PrintedLaw
 pub mod Limits
+pub mod Roles
 pub mod Marks
 pub mod Numbering
 pub mod Spells

@@ -1,36 +1,16 @@
 -- What the grammar looks at in each token of a text.
-use Rattle.std.specs.Prelude.{ℕ, true, false, List, [], ◌∷◌, map, find, Option, Some, None, codes, if◌then◌else◌}
+use Rattle.std.specs.Prelude.{ℕ, true, false, List, map, Option, Some, None, codes, if◌then◌else◌}
 use Rattle.std.specs.List.{position_or_len}
 use Rattle.std.specs.Str.{bytes_eq}
 use Rattle.text_core.specs.Names.{Text}
 use Rattle.logic_core.specs.declared.formula.Op.TheVariants as op
 use Rattle.logic_core.specs.declared.problem.Role.{Role}
-use Rattle.logic_core.specs.declared.problem.Role.TheVariants.{Axiom, Hypothesis, Definition, Assumption, Lemma, Theorem, Corollary, NegatedConjecture, Conjecture}
 use Rattle.tptp_lexer.specs.declared.kind.Kind.{Kind}
 use Rattle.tptp_lexer.specs.declared.kind.Kind.TheVariants as kind
 use Rattle.tptp_lexer.specs.Tokens.{Token}
+use Rattle.tptp_grammar.specs.Roles.{role_of}
 use Rattle.tptp_grammar.specs.declared.mark.Mark.{Mark}
 use Rattle.tptp_grammar.specs.declared.mark.Mark.TheVariants.{Fof, Include, Role as RoleMark, Truth, Upper, Connective, Other}
-
--- the word that tells a role
-abbrev pub role_text : Role → Text
-role_text Axiom = codes "axiom"
-role_text Hypothesis = codes "hypothesis"
-role_text Definition = codes "definition"
-role_text Assumption = codes "assumption"
-role_text Lemma = codes "lemma"
-role_text Theorem = codes "theorem"
-role_text Corollary = codes "corollary"
-role_text NegatedConjecture = codes "negated_conjecture"
-role_text Conjecture = codes "conjecture"
-
--- the nine roles
-abbrev pub roles : List Role
-roles = Axiom ∷ Hypothesis ∷ Definition ∷ Assumption ∷ Lemma ∷ Theorem ∷ Corollary ∷ NegatedConjecture ∷ Conjecture ∷ []
-
--- the role that a word tells
-unfoldable pub role_of : Text → Option Role
-role_of text = find (λ role. bytes_eq text (role_text role)) roles
 
 -- a lower word that is neither `fof` nor `include`
 abbrev pub role_mark : Option Role → Mark
@@ -39,13 +19,15 @@ role_mark None = Other kind.Lower
 
 abbrev pub lower_mark : Text → Mark
 lower_mark text =
-    if bytes_eq text (codes "fof") then Fof else (if bytes_eq text (codes "include") then Include else role_mark (role_of text))
+    if bytes_eq text (codes "fof") then Fof else
+    (if bytes_eq text (codes "include") then Include else role_mark (role_of text))
 
 abbrev pub dollar_mark : Text → Mark
 dollar_mark text =
-    if bytes_eq text (codes "$true") then Truth true else (if bytes_eq text (codes "$false") then Truth false else Other kind.Dollar)
+    if bytes_eq text (codes "$true") then Truth true else
+    (if bytes_eq text (codes "$false") then Truth false else Other kind.Dollar)
 
--- the number of a word among the tokens of a text: the place of the first that is this word
+-- the number of a word among the tokens of a text: that of the first that is this word
 abbrev pub number_of : List Token → Text → ℕ
 number_of ts text = position_or_len (λ (t : Token). bytes_eq t.text text) ts
 

@@ -1,4 +1,5 @@
--- How upper words are numbered while the tokens are gone through: a table has the place of the first token that is the word.
+-- How upper words are numbered while the tokens are gone through: a table has the number of the
+-- first token that is the word.
 use Rattle.std.specs.Prelude.{◌≡◌, ℕ, List, Option, Some, position}
 use Rattle.std.specs.Borrow.{Bor}
 use Rattle.std.specs.Str.{bytes_eq}
@@ -12,6 +13,7 @@ use Rattle.tptp_lexer.specs.Tokens.{Token}
 abbrev pub number_in : {S : Type 0} → HashMap (Bor Text) ℕ S → Text → Option ℕ
 number_in numbers word = get_by (λ key. bytes_eq word key.now) numbers
 
--- each upper word has the place of the first of these tokens that is this word, if there is one
+-- each upper word has the number of the first of these tokens that is this word, if there is one
 abbrev pub AreNumbers : List Token → (Text → Option ℕ) → Type 0
-AreNumbers ts number = (word : Text) → kind_of word ≡ Some Upper → number word ≡ position (λ (t : Token). bytes_eq t.text word) ts
+AreNumbers ts number = (word : Text) → kind_of word ≡ Some Upper →
+    number word ≡ position (λ (t : Token). bytes_eq t.text word) ts

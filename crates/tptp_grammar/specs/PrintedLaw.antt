@@ -1,4 +1,5 @@
--- The printed grammar of items and the factored one spell and begin the same tokens: each part of one stands for rows of the other.
+-- The printed grammar of items and the factored one spell and begin the same tokens: each part of
+-- one stands for rows of the other.
 use Rattle.std.specs.Prelude.{◌≡◌, ℕ, zero, suc, ◌+◌, false, List, [], ◌∷◌, ◌++◌, IsTrue}
 use Rattle.std.proofs.Common.{refl, inl, inr}
 use Rattle.std.proofs.lemmas.Bool.{false≢true}
@@ -8,62 +9,74 @@ use Rattle.token_grammar.specs.Plan.{is_empty}
 use Rattle.token_grammar.specs.Factored.{Translates, AlternativesAreMade, Becomes}
 use Rattle.token_grammar.specs.Factored.Becomes.{done, keep, replace}
 use Rattle.tptp_lexer.specs.declared.kind.Kind.TheVariants as kind
-use Rattle.tptp_grammar.specs.declared.mark.Mark as Mark
-use Rattle.tptp_grammar.specs.declared.symbol.Symbol as Symbol
-use Rattle.tptp_grammar.specs.declared.symbol.Symbol.TheVariants.{Token, FofWord, IncludeWord, Name, RoleWord, Word, TruthWord, Connective, Variable, Binds, Opens, ClosesArguments, Plain, Items, Item, FofHead, FofTail, FofEnd, IncludeHead, IncludeTail, NamesRest, Formula, FormulaRest, AndRest, OrRest, Unitary, Quantified, BindsRest, AfterWord, Equation, Term, TermsRest, General, GeneralRest, GeneralsRest, Data, DataArguments, List as BracketList, ListBody}
-use Rattle.tptp_grammar.specs.Symbols.{fof_items, alternatives}
+use Rattle.tptp_grammar.specs.declared.mark.Mark.{Mark}
+use Rattle.tptp_grammar.specs.declared.item_part.ItemPart.{ItemPart}
+use Rattle.tptp_grammar.specs.declared.item_part.ItemPart.TheVariants.{Token, FofWord, IncludeWord, Name, RoleWord, Word, TruthWord, Connective, Variable, Binds, Opens, ClosesArguments, Plain, Items, Item, FofHead, FofTail, FofEnd, IncludeHead, IncludeTail, NamesRest, Formula, FormulaRest, AndRest, OrRest, Unitary, Quantified, BindsRest, AfterWord, Equation, Term, TermsRest, General, GeneralRest, GeneralsRest, Data, DataArguments, List as BracketList, ListBody}
+use Rattle.tptp_grammar.specs.Parts.{fof_items, alternatives}
 use Rattle.tptp_grammar.specs.Printed.{Printed, mark, item_end, quantified, printed_items, printed_alternatives}
 use Rattle.tptp_grammar.specs.Printed.Printed.{one, items, item, names, formula, ands, ors, unit, variables, terms, left, term, general, generals, list, datum}
 
 -- a formula's item behind `fof`
 abbrev behind_fof : List Printed → List Printed
 behind_fof rest =
-    mark kind.OpenParenthesis ∷ one Name ∷ mark kind.Comma ∷ one RoleWord ∷ mark kind.Comma ∷ formula 0 ∷ rest
+    mark kind.OpenParenthesis ∷ one Name ∷ mark kind.Comma ∷ one RoleWord ∷ mark kind.Comma ∷
+    formula 0 ∷ rest
 
 -- an inclusion behind its file's name, with a selection
 abbrev selection : List Printed
 selection = mark kind.Comma ∷ mark kind.OpenBracket ∷ names ∷ mark kind.CloseBracket ∷ item_end
 
--- the printed rows that a part of the factored grammar stands for; one that takes a token stands for itself
-abbrev pub stands : Symbol.Symbol → List (List Printed)
-stands Items = (items ∷ []) ∷ []
-stands Item = (item ∷ []) ∷ []
-stands FofHead =
+-- the printed rows that a part of the factored grammar stands for; one that takes a token stands
+-- for itself
+abbrev pub printed_rows : ItemPart → List (List Printed)
+printed_rows Items = (items ∷ []) ∷ []
+printed_rows Item = (item ∷ []) ∷ []
+printed_rows FofHead =
     behind_fof item_end ∷ behind_fof (mark kind.Comma ∷ general 0 ∷ item_end) ∷
     behind_fof (mark kind.Comma ∷ general 0 ∷ mark kind.Comma ∷ list 0 ∷ item_end) ∷ []
-stands FofTail =
-    item_end ∷ (mark kind.Comma ∷ general 0 ∷ item_end) ∷ (mark kind.Comma ∷ general 0 ∷ mark kind.Comma ∷ list 0 ∷ item_end) ∷ []
-stands FofEnd = item_end ∷ (mark kind.Comma ∷ list 0 ∷ item_end) ∷ []
-stands IncludeHead =
-    (mark kind.OpenParenthesis ∷ mark kind.Quoted ∷ item_end) ∷ (mark kind.OpenParenthesis ∷ mark kind.Quoted ∷ selection) ∷ []
-stands IncludeTail = item_end ∷ selection ∷ []
-stands NamesRest = [] ∷ (mark kind.Comma ∷ names ∷ []) ∷ []
-stands (Formula level) = (formula level ∷ []) ∷ []
-stands (FormulaRest level) =
-    [] ∷ (mark kind.Ampersand ∷ ands level ∷ []) ∷ (mark kind.Bar ∷ ors level ∷ []) ∷ (one Connective ∷ unit level ∷ []) ∷ []
-stands (AndRest level) = [] ∷ (mark kind.Ampersand ∷ ands level ∷ []) ∷ []
-stands (OrRest level) = [] ∷ (mark kind.Bar ∷ ors level ∷ []) ∷ []
-stands (Unitary level) = (unit level ∷ []) ∷ []
-stands (Quantified level) = quantified level ∷ []
-stands (BindsRest level) = [] ∷ (mark kind.Comma ∷ variables level ∷ []) ∷ []
-stands (AfterWord level) =
-    [] ∷ (mark kind.OpenParenthesis ∷ terms level ∷ one ClosesArguments ∷ []) ∷ (mark kind.Equal ∷ term level ∷ []) ∷
+printed_rows FofTail =
+    item_end ∷ (mark kind.Comma ∷ general 0 ∷ item_end) ∷
+    (mark kind.Comma ∷ general 0 ∷ mark kind.Comma ∷ list 0 ∷ item_end) ∷ []
+printed_rows FofEnd = item_end ∷ (mark kind.Comma ∷ list 0 ∷ item_end) ∷ []
+printed_rows IncludeHead =
+    (mark kind.OpenParenthesis ∷ mark kind.Quoted ∷ item_end) ∷
+    (mark kind.OpenParenthesis ∷ mark kind.Quoted ∷ selection) ∷ []
+printed_rows IncludeTail = item_end ∷ selection ∷ []
+printed_rows NamesRest = [] ∷ (mark kind.Comma ∷ names ∷ []) ∷ []
+printed_rows (Formula level) = (formula level ∷ []) ∷ []
+printed_rows (FormulaRest level) =
+    [] ∷ (mark kind.Ampersand ∷ ands level ∷ []) ∷ (mark kind.Bar ∷ ors level ∷ []) ∷
+    (one Connective ∷ unit level ∷ []) ∷ []
+printed_rows (AndRest level) = [] ∷ (mark kind.Ampersand ∷ ands level ∷ []) ∷ []
+printed_rows (OrRest level) = [] ∷ (mark kind.Bar ∷ ors level ∷ []) ∷ []
+printed_rows (Unitary level) = (unit level ∷ []) ∷ []
+printed_rows (Quantified level) = quantified level ∷ []
+printed_rows (BindsRest level) = [] ∷ (mark kind.Comma ∷ variables level ∷ []) ∷ []
+printed_rows (AfterWord level) =
+    [] ∷ (mark kind.OpenParenthesis ∷ terms level ∷ one ClosesArguments ∷ []) ∷
+    (mark kind.Equal ∷ term level ∷ []) ∷
     (mark kind.NotEqual ∷ term level ∷ []) ∷ []
-stands (Equation level) = (mark kind.Equal ∷ term level ∷ []) ∷ (mark kind.NotEqual ∷ term level ∷ []) ∷ []
-stands (Term level) = (term level ∷ []) ∷ []
-stands (TermsRest level) = [] ∷ (mark kind.Comma ∷ terms level ∷ []) ∷ []
-stands (General level) = (general level ∷ []) ∷ []
-stands (GeneralRest level) = [] ∷ (mark kind.Colon ∷ general level ∷ []) ∷ []
-stands (GeneralsRest level) = [] ∷ (mark kind.Comma ∷ generals level ∷ []) ∷ []
-stands (Data level) = (datum level ∷ []) ∷ []
-stands (DataArguments level) =
-    [] ∷ (one (Opens (level + 1) kind.OpenParenthesis) ∷ generals (level + 1) ∷ mark kind.CloseParenthesis ∷ []) ∷ []
-stands (BracketList level) = (list level ∷ []) ∷ []
-stands (ListBody level) = (mark kind.CloseBracket ∷ []) ∷ (generals level ∷ mark kind.CloseBracket ∷ []) ∷ []
-stands p = (one p ∷ []) ∷ []
+printed_rows (Equation level) =
+    (mark kind.Equal ∷ term level ∷ []) ∷
+    (mark kind.NotEqual ∷ term level ∷ []) ∷ []
+printed_rows (Term level) = (term level ∷ []) ∷ []
+printed_rows (TermsRest level) = [] ∷ (mark kind.Comma ∷ terms level ∷ []) ∷ []
+printed_rows (General level) = (general level ∷ []) ∷ []
+printed_rows (GeneralRest level) = [] ∷ (mark kind.Colon ∷ general level ∷ []) ∷ []
+printed_rows (GeneralsRest level) = [] ∷ (mark kind.Comma ∷ generals level ∷ []) ∷ []
+printed_rows (Data level) = (datum level ∷ []) ∷ []
+printed_rows (DataArguments level) =
+    [] ∷
+    (one (Opens (level + 1) kind.OpenParenthesis) ∷ generals (level + 1) ∷
+    mark kind.CloseParenthesis ∷ []) ∷ []
+printed_rows (BracketList level) = (list level ∷ []) ∷ []
+printed_rows (ListBody level) =
+    (mark kind.CloseBracket ∷ []) ∷
+    (generals level ∷ mark kind.CloseBracket ∷ []) ∷ []
+printed_rows p = (one p ∷ []) ∷ []
 
 -- the rows of the factored grammar that a printed part stands for
-abbrev pub made : Printed → List (List Symbol.Symbol)
+abbrev pub made : Printed → List (List ItemPart)
 made (one p) = (p ∷ []) ∷ []
 made items = (Items ∷ []) ∷ []
 made item = (Item ∷ []) ∷ []
@@ -95,7 +108,8 @@ at_row (row ∷ rows) (suc n) P held = let found = at_row rows n P held in (foun
 
 -- the first member is replaced by its alternative of this number
 to : {Q T : Type 0} {h : Grammar Q T} {q : Q} {row other : List Q} (n : ℕ) →
-    At (h.alternatives q) n (λ alternative. Becomes h (alternative ++ row) other) → Becomes h (q ∷ row) other
+    At (h.alternatives q) n (λ alternative. Becomes h (alternative ++ row) other) →
+    Becomes h (q ∷ row) other
 to n held = let found = at_row _ n _ held in replace found.0 found.1 found.2
 
 -- all members stay
@@ -109,25 +123,31 @@ abbrev ◌&◌ : {A B : Type 0} → A → B → A × B
 a & b = (a, b)
 
 -- in brackets what each row is made of that an alternative stands for
-stands_for : (p : Symbol.Symbol) → AlternativesAreMade printed_items stands (stands p) (alternatives p)
-stands_for Items = (inl (to 0 done) & tt) & (inl (to 1 kept) & tt) & tt
-stands_for Item = (inl (to 0 kept) & inl (to 1 kept) & inl (to 2 kept) & tt) & (inl (to 3 kept) & inl (to 4 kept) & tt) & tt
-stands_for FofHead = (inl kept & inr (inl kept) & inr (inr (inl kept)) & tt) & tt
-stands_for FofTail = (inl kept & tt) & (inr (inl kept) & inr (inr (inl kept)) & tt) & tt
-stands_for FofEnd = (inl kept & tt) & (inr (inl kept) & tt) & tt
-stands_for IncludeHead = (inl kept & inr (inl kept) & tt) & tt
-stands_for IncludeTail = (inl kept & tt) & (inr (inl (keep (keep (to 0 kept)))) & inr (inl (keep (keep (to 1 kept)))) & tt) & tt
-stands_for NamesRest = (inl done & tt) & (inr (inl (keep (to 0 kept))) & inr (inl (keep (to 1 kept))) & tt) & tt
-stands_for (Formula level) = (inl (to 0 kept) & inl (to 1 kept) & inl (to 2 kept) & inl (to 3 kept) & tt) & tt
-stands_for (FormulaRest level) =
+rows_made : (p : ItemPart) → AlternativesAreMade printed_items printed_rows (printed_rows p) (alternatives p)
+rows_made Items = (inl (to 0 done) & tt) & (inl (to 1 kept) & tt) & tt
+rows_made Item = (inl (to 0 kept) & inl (to 1 kept) & inl (to 2 kept) & tt) &
+    (inl (to 3 kept) & inl (to 4 kept) & tt) & tt
+rows_made FofHead = (inl kept & inr (inl kept) & inr (inr (inl kept)) & tt) & tt
+rows_made FofTail = (inl kept & tt) & (inr (inl kept) & inr (inr (inl kept)) & tt) & tt
+rows_made FofEnd = (inl kept & tt) & (inr (inl kept) & tt) & tt
+rows_made IncludeHead = (inl kept & inr (inl kept) & tt) & tt
+rows_made IncludeTail = (inl kept & tt) & (inr (inl (keep (keep (to 0 kept)))) &
+    inr (inl (keep (keep (to 1 kept)))) & tt) & tt
+rows_made NamesRest = (inl done & tt) & (inr (inl (keep (to 0 kept))) &
+    inr (inl (keep (to 1 kept))) & tt) & tt
+rows_made (Formula level) = (inl (to 0 kept) & inl (to 1 kept) & inl (to 2 kept) & inl (to 3 kept) &
+    tt) & tt
+rows_made (FormulaRest level) =
     (inl done & tt) &
     (inr (inl (keep (to 0 kept))) & inr (inl (keep (to 1 kept))) & tt) &
     (inr (inr (inl (keep (to 0 kept)))) & inr (inr (inl (keep (to 1 kept)))) & tt) &
     (inr (inr (inr (inl kept))) & tt) &
     tt
-stands_for (AndRest level) = (inl done & tt) & (inr (inl (keep (to 0 kept))) & inr (inl (keep (to 1 kept))) & tt) & tt
-stands_for (OrRest level) = (inl done & tt) & (inr (inl (keep (to 0 kept))) & inr (inl (keep (to 1 kept))) & tt) & tt
-stands_for (Unitary level) =
+rows_made (AndRest level) = (inl done & tt) & (inr (inl (keep (to 0 kept))) &
+    inr (inl (keep (to 1 kept))) & tt) & tt
+rows_made (OrRest level) = (inl done & tt) & (inr (inl (keep (to 0 kept))) &
+    inr (inl (keep (to 1 kept))) & tt) & tt
+rows_made (Unitary level) =
     (inl (to 0 kept) & tt) &
     (inl (to 1 kept) & tt) &
     (inl (to 2 kept) & tt) &
@@ -136,25 +156,30 @@ stands_for (Unitary level) =
     (inl (to 5 kept) & inl (to 6 kept) & inl (to 7 (to 1 kept)) & inl (to 8 (to 1 kept)) & tt) &
     (inl (to 7 (to 0 kept)) & inl (to 8 (to 0 kept)) & tt) &
     tt
-stands_for (Quantified level) = (inl (keep (to 0 kept)) & inl (keep (to 1 kept)) & tt) & tt
-stands_for (BindsRest level) = (inl done & tt) & (inr (inl (keep (to 0 kept))) & inr (inl (keep (to 1 kept))) & tt) & tt
-stands_for (AfterWord level) =
+rows_made (Quantified level) = (inl (keep (to 0 kept)) & inl (keep (to 1 kept)) & tt) & tt
+rows_made (BindsRest level) = (inl done & tt) & (inr (inl (keep (to 0 kept))) &
+    inr (inl (keep (to 1 kept))) & tt) & tt
+rows_made (AfterWord level) =
     (inl done & tt) &
     (inr (inl (keep (to 0 kept))) & inr (inl (keep (to 1 kept))) & tt) &
     (inr (inr (inl kept)) & tt) &
     (inr (inr (inr (inl kept))) & tt) &
     tt
-stands_for (Equation level) = (inl kept & tt) & (inr (inl kept) & tt) & tt
-stands_for (Term level) = (inl (to 0 kept) & tt) & (inl (to 1 kept) & tt) & tt
-stands_for (TermsRest level) = (inl done & tt) & (inr (inl (keep (to 0 kept))) & inr (inl (keep (to 1 kept))) & tt) & tt
-stands_for (General level) = (inl (to 0 kept) & inl (to 1 kept) & tt) & (inl (to 2 kept) & tt) & tt
-stands_for (GeneralRest level) = (inl done & tt) & (inr (inl kept) & tt) & tt
-stands_for (GeneralsRest level) = (inl done & tt) & (inr (inl (keep (to 0 kept))) & inr (inl (keep (to 1 kept))) & tt) & tt
-stands_for (Data level) = (inl (to 0 kept) & tt) & (inl (to 1 kept) & inl (to 2 kept) & tt) & tt
-stands_for (DataArguments level) = (inl done & tt) & (inr (inl (keep (to 0 kept))) & inr (inl (keep (to 1 kept))) & tt) & tt
-stands_for (BracketList level) = (inl (to 0 kept) & inl (to 1 kept) & tt) & tt
-stands_for (ListBody level) = (inl kept & tt) & (inr (inl (to 0 kept)) & inr (inl (to 1 kept)) & tt) & tt
-stands_for _ = tt
+rows_made (Equation level) = (inl kept & tt) & (inr (inl kept) & tt) & tt
+rows_made (Term level) = (inl (to 0 kept) & tt) & (inl (to 1 kept) & tt) & tt
+rows_made (TermsRest level) = (inl done & tt) & (inr (inl (keep (to 0 kept))) &
+    inr (inl (keep (to 1 kept))) & tt) & tt
+rows_made (General level) = (inl (to 0 kept) & inl (to 1 kept) & tt) & (inl (to 2 kept) & tt) & tt
+rows_made (GeneralRest level) = (inl done & tt) & (inr (inl kept) & tt) & tt
+rows_made (GeneralsRest level) = (inl done & tt) & (inr (inl (keep (to 0 kept))) &
+    inr (inl (keep (to 1 kept))) & tt) & tt
+rows_made (Data level) = (inl (to 0 kept) & tt) & (inl (to 1 kept) & inl (to 2 kept) & tt) & tt
+rows_made (DataArguments level) = (inl done & tt) & (inr (inl (keep (to 0 kept))) &
+    inr (inl (keep (to 1 kept))) & tt) & tt
+rows_made (BracketList level) = (inl (to 0 kept) & inl (to 1 kept) & tt) & tt
+rows_made (ListBody level) = (inl kept & tt) & (inr (inl (to 0 kept)) & inr (inl (to 1 kept)) &
+    tt) & tt
+rows_made _ = tt
 
 made_for : (p : Printed) → AlternativesAreMade fof_items made (made p) (printed_alternatives p)
 made_for (one p) = tt
@@ -195,42 +220,48 @@ made_for (general level) =
     (inl (to 0 (keep (to 1 kept))) & tt) &
     (inl (to 1 kept) & tt) &
     tt
-made_for (list level) = (inl (to 0 (keep (to 0 kept))) & tt) & (inl (to 0 (keep (to 1 kept))) & tt) & tt
+made_for (list level) = (inl (to 0 (keep (to 0 kept))) & tt) &
+    (inl (to 0 (keep (to 1 kept))) & tt) & tt
 made_for (generals level) = (inl (keep (to 0 done)) & tt) & (inl (keep (to 1 kept)) & tt) & tt
-made_for (datum level) = (inl (to 0 kept) & tt) & (inl (to 1 (keep (to 0 done))) & tt) & (inl (to 1 (keep (to 1 kept))) & tt) & tt
+made_for (datum level) = (inl (to 0 kept) & tt) & (inl (to 1 (keep (to 0 done))) & tt) &
+    (inl (to 1 (keep (to 1 kept))) & tt) & tt
 
-token_stands : (p : Symbol.Symbol) (t : Mark.Mark) → IsTrue (fof_items.takes p t) →
-    (row : List Printed) × IsAmong row (stands p) × Spelled printed_items row (t ∷ [])
-token_stands (Token k) t taken = (one (Token k) ∷ [], inl refl, Spelled.token taken Spelled.none)
-token_stands FofWord t taken = (one FofWord ∷ [], inl refl, Spelled.token taken Spelled.none)
-token_stands IncludeWord t taken = (one IncludeWord ∷ [], inl refl, Spelled.token taken Spelled.none)
-token_stands Name t taken = (one Name ∷ [], inl refl, Spelled.token taken Spelled.none)
-token_stands RoleWord t taken = (one RoleWord ∷ [], inl refl, Spelled.token taken Spelled.none)
-token_stands Word t taken = (one Word ∷ [], inl refl, Spelled.token taken Spelled.none)
-token_stands TruthWord t taken = (one TruthWord ∷ [], inl refl, Spelled.token taken Spelled.none)
-token_stands Connective t taken = (one Connective ∷ [], inl refl, Spelled.token taken Spelled.none)
-token_stands (Variable level) t taken = (one (Variable level) ∷ [], inl refl, Spelled.token taken Spelled.none)
-token_stands (Binds level) t taken = (one (Binds level) ∷ [], inl refl, Spelled.token taken Spelled.none)
-token_stands (Opens level k) t taken = (one (Opens level k) ∷ [], inl refl, Spelled.token taken Spelled.none)
-token_stands ClosesArguments t taken = (one ClosesArguments ∷ [], inl refl, Spelled.token taken Spelled.none)
-token_stands Plain t taken = (one Plain ∷ [], inl refl, Spelled.token taken Spelled.none)
-token_stands _ t taken = absurd (false≢true taken)
+token_row : (p : ItemPart) (t : Mark) → IsTrue (fof_items.takes p t) →
+    (row : List Printed) × IsAmong row (printed_rows p) × Spelled printed_items row (t ∷ [])
+token_row (Token k) t taken = (one (Token k) ∷ [], inl refl, Spelled.token taken Spelled.none)
+token_row FofWord t taken = (one FofWord ∷ [], inl refl, Spelled.token taken Spelled.none)
+token_row IncludeWord t taken = (one IncludeWord ∷ [], inl refl, Spelled.token taken Spelled.none)
+token_row Name t taken = (one Name ∷ [], inl refl, Spelled.token taken Spelled.none)
+token_row RoleWord t taken = (one RoleWord ∷ [], inl refl, Spelled.token taken Spelled.none)
+token_row Word t taken = (one Word ∷ [], inl refl, Spelled.token taken Spelled.none)
+token_row TruthWord t taken = (one TruthWord ∷ [], inl refl, Spelled.token taken Spelled.none)
+token_row Connective t taken = (one Connective ∷ [], inl refl, Spelled.token taken Spelled.none)
+token_row (Variable level) t taken =
+    (one (Variable level) ∷ [], inl refl, Spelled.token taken Spelled.none)
+token_row (Binds level) t taken =
+    (one (Binds level) ∷ [], inl refl, Spelled.token taken Spelled.none)
+token_row (Opens level k) t taken =
+    (one (Opens level k) ∷ [], inl refl, Spelled.token taken Spelled.none)
+token_row ClosesArguments t taken =
+    (one ClosesArguments ∷ [], inl refl, Spelled.token taken Spelled.none)
+token_row Plain t taken = (one Plain ∷ [], inl refl, Spelled.token taken Spelled.none)
+token_row _ t taken = absurd (false≢true taken)
 
-token_made : (p : Printed) (t : Mark.Mark) → IsTrue (printed_items.takes p t) →
-    (row : List Symbol.Symbol) × IsAmong row (made p) × Spelled fof_items row (t ∷ [])
+token_made : (p : Printed) (t : Mark) → IsTrue (printed_items.takes p t) →
+    (row : List ItemPart) × IsAmong row (made p) × Spelled fof_items row (t ∷ [])
 token_made (one p) t taken = (p ∷ [], inl refl, Spelled.token taken Spelled.none)
 token_made _ t taken = absurd (false≢true taken)
 
-some_stands : (p : Symbol.Symbol) → is_empty (stands p) ≡ false
-some_stands (Token k) = refl
-some_stands _ = refl
+some_rows : (p : ItemPart) → is_empty (printed_rows p) ≡ false
+some_rows (Token k) = refl
+some_rows _ = refl
 
 some_made : (p : Printed) → is_empty (made p) ≡ false
 some_made (one p) = refl
 some_made _ = refl
 
-pub printed_law : Translates fof_items printed_items stands
-printed_law = record { some = some_stands; takes = token_stands; alternatives = stands_for }
+pub printed_law : Translates fof_items printed_items printed_rows
+printed_law = record { some = some_rows; takes = token_row; alternatives = rows_made }
 
 pub factored_law : Translates printed_items fof_items made
 factored_law = record { some = some_made; takes = token_made; alternatives = made_for }

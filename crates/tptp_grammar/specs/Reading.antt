@@ -1,11 +1,11 @@
--- How the reader goes through the tokens of a text, from left to right. It reads what is a text of the grammar already, so it looks
--- only at what it needs.
+-- How the reader goes through the tokens of a text, from left to right. It reads what is a text of
+-- the grammar already, so it looks only at what it needs.
 use Rattle.std.specs.Prelude.{◌≡◌, ℕ, zero, suc, Bool, true, false, List, [], ◌∷◌, ◌++◌, length, Option, Some, None, Result, Ok, Err, codes, if◌then◌else◌}
 use Rattle.std.specs.Option.{option_and_then}
 use Rattle.std.specs.Str.{bytes_eq}
 use Rattle.std.specs.List.{AllByRecursion}
 use Rattle.text_core.specs.Names.{Text}
-use Rattle.logic_core.specs.Problems.{ItemMayStand}
+use Rattle.logic_core.specs.Allowed.{ItemIsAllowed}
 use Rattle.logic_core.specs.declared.formula.Term.{Term}
 use Rattle.logic_core.specs.declared.formula.Term.TheVariants.{Variable, Constant}
 use Rattle.logic_core.specs.declared.formula.Op.{Op}
@@ -18,12 +18,12 @@ use Rattle.tptp_lexer.specs.declared.kind.Kind.{Kind}
 use Rattle.tptp_lexer.specs.declared.kind.Kind.TheVariants as kind
 use Rattle.tptp_lexer.specs.Tokens.{Token, name_of}
 use Rattle.text_core.specs.declared.limits.TheConstants.{MOST_LEVELS}
-use Rattle.tptp_grammar.specs.declared.cursor.Naming.{Naming}
-use Rattle.tptp_grammar.specs.declared.cursor.Naming.TheVariants as naming
-use Rattle.tptp_grammar.specs.declared.cursor.NotRead.{NotRead}
-use Rattle.tptp_grammar.specs.declared.cursor.NotRead.TheVariants.{NoText, Memory}
-use Rattle.tptp_grammar.specs.Symbols.{same_kind}
-use Rattle.tptp_grammar.specs.Marks.{role_of}
+use Rattle.tptp_grammar.specs.declared.name_reader.Naming.{Naming}
+use Rattle.tptp_grammar.specs.declared.name_reader.Naming.TheVariants as naming
+use Rattle.tptp_grammar.specs.declared.name_reader.NotRead.{NotRead}
+use Rattle.tptp_grammar.specs.declared.name_reader.NotRead.TheVariants.{NoText, Memory}
+use Rattle.tptp_grammar.specs.Parts.{same_kind}
+use Rattle.tptp_grammar.specs.Roles.{role_of}
 
 -- what is read, a value with what is left, or nothing
 abbrev pub Read : Type 0 → Type 0
@@ -51,25 +51,30 @@ with_front front None = None
 with_front front (Some read) = Some (front ++ read.0, read.1)
 
 -- further values, each behind a token of this kind, and at most so many
-abbrev pub more_behind : {X : Type 0} → List Token → Option (Read X) → (List Token → Read (List X)) → Read (List X)
+abbrev pub more_behind : {X : Type 0} → List Token → Option (Read X) →
+    (List Token → Read (List X)) → Read (List X)
 more_behind ts None further = Some ([], ts)
 more_behind ts (Some None) further = None
 more_behind ts (Some (Some read)) further = with_front (read.0 ∷ []) (further read.1)
 
-abbrev pub read_behind : {X : Type 0} → (List Token → Read X) → Option (List Token) → Option (Read X)
+abbrev pub read_behind : {X : Type 0} → (List Token → Read X) → Option (List Token) →
+    Option (Read X)
 read_behind read None = None
 read_behind read (Some ts) = Some (read ts)
 
-unfoldable pub more_from : {X : Type 0} → (List Token → Read X) → Kind → ℕ → List Token → Read (List X)
+unfoldable pub more_from : {X : Type 0} → (List Token → Read X) → Kind → ℕ → List Token →
+    Read (List X)
 more_from read k zero ts = Some ([], ts)
-more_from read k (suc most) ts = more_behind ts (read_behind read (behind k ts)) (more_from read k most)
+more_from read k (suc most) ts =
+    more_behind ts (read_behind read (behind k ts)) (more_from read k most)
 
 -- a value, further ones behind commas, and the closing bracket
 abbrev pub closed_by : {X : Type 0} → Kind → List X × List Token → Read (List X)
 closed_by k read = option_and_then (λ ts. Some (read.0, ts)) (behind k read.1)
 
 abbrev pub listed_from : {X : Type 0} → (List Token → Read X) → Kind → List Token → Read (List X)
-listed_from {X = X} read k ts = option_and_then (λ (first : X × List Token). option_and_then (closed_by k)
+listed_from {X = X} read k ts = option_and_then (λ (first : X × List Token).
+    option_and_then (closed_by k)
     (with_front (first.0 ∷ []) (more_from read kind.Comma (length first.1) first.1))) (read ts)
 
 -- whether a token of the kind names a variable, or a formula
@@ -88,7 +93,8 @@ name_from wanted (t ∷ ts) = if may_name wanted t.kind then Some (name_of t, ts
 
 -- names in brackets
 abbrev pub names_from : Naming → List Token → Read (List Text)
-names_from wanted ts = option_and_then (listed_from (name_from wanted) kind.CloseBracket) (behind kind.OpenBracket ts)
+names_from wanted ts =
+    option_and_then (listed_from (name_from wanted) kind.CloseBracket) (behind kind.OpenBracket ts)
 
 -- a term
 abbrev pub term_at : Kind → Text → List Token → Read Term
@@ -113,7 +119,8 @@ equation_from s (t ∷ ts) = equation_at t.kind s ts
 
 -- an atom behind its first word
 abbrev pub atom_at : Kind → Text → Token → List Token → Read Formula
-atom_at kind.OpenParenthesis name t ts = reread (Pred name) (listed_from term_from kind.CloseParenthesis ts)
+atom_at kind.OpenParenthesis name t ts =
+    reread (Pred name) (listed_from term_from kind.CloseParenthesis ts)
 atom_at kind.Equal name t ts = equation_from (Constant name) (t ∷ ts)
 atom_at kind.NotEqual name t ts = equation_from (Constant name) (t ∷ ts)
 atom_at _ name t ts = Some (Pred name [], t ∷ ts)
@@ -122,10 +129,12 @@ unfoldable pub atom_from : Text → List Token → Read Formula
 atom_from name [] = Some (Pred name [], [])
 atom_from name (t ∷ ts) = atom_at t.kind name t ts
 
--- a quantified formula behind its mark
-abbrev pub quantified_from : (List Text → Formula → Formula) → (List Token → Read Formula) → List Token → Read Formula
+-- a quantified formula behind its `!` or `?`
+abbrev pub quantified_from : (List Text → Formula → Formula) → (List Token → Read Formula) →
+    List Token → Read Formula
 quantified_from quantifier below ts = option_and_then (λ (xs : List Text × List Token).
-    option_and_then (λ ts. reread (quantifier xs.0) (below ts)) (behind kind.Colon xs.1)) (names_from naming.OfVariable ts)
+    option_and_then (λ ts. reread (quantifier xs.0) (below ts)) (behind kind.Colon xs.1))
+    (names_from naming.OfVariable ts)
 
 -- a formula in brackets behind the opening one
 abbrev pub bracketed_from : (List Token → Read Formula) → List Token → Read Formula
@@ -136,8 +145,10 @@ bracketed_from inside ts = option_and_then (λ (read : Formula × List Token).
 abbrev pub truth_from : Text → List Token → Read Formula
 truth_from text ts = if bytes_eq text (codes "$true") then Some (True, ts) else Some (False, ts)
 
--- a unit formula by its first token, where what stands in brackets and what stands below a mark are read so
-abbrev pub unit_of : (below inside : List Token → Read Formula) → Kind → Token → List Token → Read Formula
+-- a unit formula by its first token, where what is in brackets and what is below a `~` or a
+-- quantifier are read so
+abbrev pub unit_of : (below inside : List Token → Read Formula) → Kind → Token → List Token →
+    Read Formula
 unit_of below inside kind.OpenParenthesis t ts = bracketed_from inside ts
 unit_of below inside kind.Tilde t ts = reread Not (below ts)
 unit_of below inside kind.Exclamation t ts = quantified_from ForAll below ts
@@ -163,14 +174,17 @@ op_of kind.Nand = Some op.Nand
 op_of _ = None
 
 -- a formula behind its first unit
-abbrev pub side_of : (List Token → Read Formula) → Option Op → Formula → Token → List Token → Read Formula
+abbrev pub side_of : (List Token → Read Formula) → Option Op → Formula → Token → List Token →
+    Read Formula
 side_of unit None g t ts = Some (g, t ∷ ts)
 side_of unit (Some o) g t ts = reread (Binary o g) (unit ts)
 
-abbrev pub chain_from : (List Token → Read Formula) → Kind → (List Formula → Formula) → Formula → List Token → Read Formula
+abbrev pub chain_from : (List Token → Read Formula) → Kind → (List Formula → Formula) → Formula →
+    List Token → Read Formula
 chain_from unit k joined g ts = reread (λ gs. joined (g ∷ gs)) (more_from unit k (length ts) ts)
 
-abbrev pub rest_at : (List Token → Read Formula) → Kind → Formula → Token → List Token → Read Formula
+abbrev pub rest_at : (List Token → Read Formula) → Kind → Formula → Token → List Token →
+    Read Formula
 rest_at unit kind.Ampersand g t ts = chain_from unit kind.Ampersand And g (t ∷ ts)
 rest_at unit kind.Bar g t ts = chain_from unit kind.Bar Or g (t ∷ ts)
 rest_at unit k g t ts = side_of unit (op_of k) g t ts
@@ -180,16 +194,18 @@ rest_from unit g [] = Some (g, [])
 rest_from unit g (t ∷ ts) = rest_at unit t.kind g t ts
 
 abbrev pub formula_with : (List Token → Read Formula) → List Token → Read Formula
-formula_with unit ts = option_and_then (λ (read : Formula × List Token). rest_from unit read.0 read.1) (unit ts)
+formula_with unit ts =
+    option_and_then (λ (read : Formula × List Token). rest_from unit read.0 read.1) (unit ts)
 
 -- nothing is read where no level may be opened
 abbrev pub nothing : List Token → Read Formula
 nothing ts = None
 
--- what stands below a mark and what stands in brackets, where so many levels may be opened
+-- what is below a `~` or a quantifier and what is in brackets, where so many levels may be opened
 unfoldable pub levels : ℕ → (List Token → Read Formula) × (List Token → Read Formula)
 levels zero = (nothing, nothing)
-levels (suc depth) = let unit = unit_with (levels depth).0 (levels depth).1 in (unit, formula_with unit)
+levels (suc depth) =
+    let unit = unit_with (levels depth).0 (levels depth).1 in (unit, formula_with unit)
 
 abbrev pub below_at : ℕ → List Token → Read Formula
 below_at depth = (levels depth).0
@@ -220,29 +236,36 @@ role_from (t ∷ ts) = option_and_then (λ role. Some (role, ts)) (role_of t.tex
 
 -- a formula's item behind its name
 abbrev pub fof_behind : ℕ → Text × List Token → Read Item
-fof_behind depth name = option_and_then (λ ts. option_and_then (λ (role : Role × List Token). option_and_then (λ ts.
-    option_and_then ended (reread (λ f. ItemFof (record { name = name.0; role = role.0; formula = f })) (formula_at depth ts)))
+fof_behind depth name = option_and_then (λ ts.
+    option_and_then (λ (role : Role × List Token). option_and_then (λ ts. option_and_then ended
+    (reread (λ f. ItemFof (record { name = name.0; role = role.0; formula = f })) (formula_at depth ts)))
     (behind kind.Comma role.1)) (role_from ts)) (behind kind.Comma name.1)
 
 unfoldable pub fof_from : ℕ → List Token → Read Item
-fof_from depth ts = option_and_then (λ ts. option_and_then (fof_behind depth) (name_from naming.OfFormula ts)) (behind kind.OpenParenthesis ts)
+fof_from depth ts =
+    option_and_then (λ ts. option_and_then (fof_behind depth) (name_from naming.OfFormula ts))
+    (behind kind.OpenParenthesis ts)
 
--- a selection, where a comma stands before it
+-- a selection, where a comma is before it
 abbrev pub selection_from : Option (List Token) → List Token → Read (Option (List Text))
 selection_from None ts = Some (None, ts)
 selection_from (Some rest) ts = reread Some (names_from naming.OfFormula rest)
 
 -- an inclusion behind its file
 abbrev pub include_behind : Text × List Token → Read Item
-include_behind file = option_and_then ended (reread (Include file.0) (selection_from (behind kind.Comma file.1) file.1))
+include_behind file = option_and_then ended
+    (reread (Include file.0) (selection_from (behind kind.Comma file.1) file.1))
 
 unfoldable pub include_from : List Token → Read Item
-include_from ts = option_and_then (λ ts. option_and_then include_behind (name_from naming.OfFile ts)) (behind kind.OpenParenthesis ts)
+include_from ts =
+    option_and_then (λ ts. option_and_then include_behind (name_from naming.OfFile ts))
+    (behind kind.OpenParenthesis ts)
 
 -- an item
 unfoldable pub item_from : ℕ → List Token → Read Item
 item_from depth [] = None
-item_from depth (t ∷ ts) = if bytes_eq t.text (codes "fof") then fof_from depth ts else include_from ts
+item_from depth (t ∷ ts) =
+    if bytes_eq t.text (codes "fof") then fof_from depth ts else include_from ts
 
 -- all items, at most so many
 unfoldable pub items_from : ℕ → ℕ → List Token → Read (List Item)
@@ -251,8 +274,8 @@ items_from depth zero (t ∷ ts) = None
 items_from depth (suc most) (t ∷ ts) = option_and_then (λ (read : Item × List Token).
     with_front (read.0 ∷ []) (items_from depth most read.1)) (item_from depth (t ∷ ts))
 
--- the tokens are read up to their end, and the items may stand in a problem's text
+-- the tokens are read up to their end, and the items may be in a problem's text
 pub record IsReadable (ts : List Token) : Type 0 where
   pub items : List Item
   pub is_read : items_from MOST_LEVELS (length ts) ts ≡ Some (items, [])
-  pub may_stand : AllByRecursion ItemMayStand items
+  pub allowed : AllByRecursion ItemIsAllowed items

@@ -1,20 +1,20 @@
 //! The steps of an annotation's parts: each pushes what the token asks for, or refuses.
 
 ghost use Rattle.tptp_grammar.specs.Stepping.{DoesStep};
-ghost use Rattle.tptp_grammar.specs.declared.symbol.Symbol.TheVariants as parts;
+ghost use Rattle.tptp_grammar.specs.declared.item_part.ItemPart.TheVariants as parts;
 
 use crate::formula_steps::inside;
-use crate::mark::Mark;
-use crate::symbol::Symbol::{
+use crate::item_part::ItemPart::{
     self, Data, DataArguments, General, GeneralRest, GeneralsRest, List, ListBody, Opens, Plain,
     Token, Word,
 };
+use crate::mark::Mark;
 use logic_core::Memory;
 use token_grammar::{Step, expand};
 use tptp_lexer::Kind;
 
 // Data, or a list.
-pub(crate) fn general(level: u32, token: Mark, stack: &mut Vec<Symbol>) -> Result<Step, Memory>
+pub(crate) fn general(level: u32, token: Mark, stack: &mut Vec<ItemPart>) -> Result<Step, Memory>
     ensures { DoesStep (parts.General level) token stack.old.items stack.new.items result }
 {
     match token {
@@ -28,7 +28,11 @@ pub(crate) fn general(level: u32, token: Mark, stack: &mut Vec<Symbol>) -> Resul
 }
 
 // Nothing, or `:` and a general term.
-pub(crate) fn general_rest(level: u32, token: Mark, stack: &mut Vec<Symbol>) -> Result<Step, Memory>
+pub(crate) fn general_rest(
+    level: u32,
+    token: Mark,
+    stack: &mut Vec<ItemPart>,
+) -> Result<Step, Memory>
     ensures { DoesStep (parts.GeneralRest level) token stack.old.items stack.new.items result }
 {
     match token {
@@ -41,7 +45,7 @@ pub(crate) fn general_rest(level: u32, token: Mark, stack: &mut Vec<Symbol>) -> 
 pub(crate) fn generals_rest(
     level: u32,
     token: Mark,
-    stack: &mut Vec<Symbol>,
+    stack: &mut Vec<ItemPart>,
 ) -> Result<Step, Memory>
     ensures { DoesStep (parts.GeneralsRest level) token stack.old.items stack.new.items result }
 {
@@ -55,7 +59,7 @@ pub(crate) fn generals_rest(
 }
 
 // A plain token, or a word and its arguments.
-pub(crate) fn data(level: u32, token: Mark, stack: &mut Vec<Symbol>) -> Result<Step, Memory>
+pub(crate) fn data(level: u32, token: Mark, stack: &mut Vec<ItemPart>) -> Result<Step, Memory>
     ensures { DoesStep (parts.Data level) token stack.old.items stack.new.items result }
 {
     match token {
@@ -69,7 +73,7 @@ pub(crate) fn data(level: u32, token: Mark, stack: &mut Vec<Symbol>) -> Result<S
 pub(crate) fn data_arguments(
     level: u32,
     token: Mark,
-    stack: &mut Vec<Symbol>,
+    stack: &mut Vec<ItemPart>,
 ) -> Result<Step, Memory>
     ensures { DoesStep (parts.DataArguments level) token stack.old.items stack.new.items result }
 {
@@ -91,7 +95,7 @@ pub(crate) fn data_arguments(
 }
 
 // `[` and the rest of a list.
-pub(crate) fn list(level: u32, token: Mark, stack: &mut Vec<Symbol>) -> Result<Step, Memory>
+pub(crate) fn list(level: u32, token: Mark, stack: &mut Vec<ItemPart>) -> Result<Step, Memory>
     ensures { DoesStep (parts.List level) token stack.old.items stack.new.items result }
 {
     match token {
@@ -104,7 +108,7 @@ pub(crate) fn list(level: u32, token: Mark, stack: &mut Vec<Symbol>) -> Result<S
 }
 
 // `]`, or general terms and `]`.
-pub(crate) fn list_body(level: u32, token: Mark, stack: &mut Vec<Symbol>) -> Result<Step, Memory>
+pub(crate) fn list_body(level: u32, token: Mark, stack: &mut Vec<ItemPart>) -> Result<Step, Memory>
     ensures { DoesStep (parts.ListBody level) token stack.old.items stack.new.items result }
 {
     match token {

@@ -7,7 +7,8 @@ use logic_core::Memory;
 use std::alloc::Global;
 use std::marker::Model;
 
-/// Bindings, the oldest first, with how many of them each variable has. Contracts see the list of bindings.
+/// Bindings, the oldest first, with how many of them each variable has. Contracts see the list of
+/// bindings.
 #[derive(Debug, Drop)]
 pub(crate) struct Counted {
     bindings: Vec<Binding>,
@@ -44,12 +45,12 @@ impl Counted {
         self.bindings.len()
     }
 
-    /// The binding at this place.
-    pub(crate) fn get(&self, place: usize) -> Binding
-        requires { place < length self.now }
-        ensures { slice_get self.now place ≡ Some result }
+    /// The binding of this number, from the oldest.
+    pub(crate) fn get(&self, number: usize) -> Binding
+        requires { number < length self.now }
+        ensures { slice_get self.now number ≡ Some result }
     {
-        self.bindings[place]
+        self.bindings[number]
     }
 
     /// The level of the newest binding, or 0.
@@ -78,12 +79,12 @@ impl Counted {
         Ok(())
     }
 
-    /// Takes away the binding at this place.
-    pub(crate) fn remove(&mut self, place: usize)
-        requires { place < length self.old }
-        ensures { self.new ≡ remove self.old place }
+    /// Takes away the binding of this number.
+    pub(crate) fn remove(&mut self, number: usize)
+        requires { number < length self.old }
+        ensures { self.new ≡ remove self.old number }
     {
-        let binding = self.bindings.remove(place);
+        let binding = self.bindings.remove(number);
         self.counts[binding.variable as usize] -= 1;
     }
 }

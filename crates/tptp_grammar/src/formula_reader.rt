@@ -1,11 +1,11 @@
-ghost use Rattle.std.specs.Prelude.{◌≡◌, [], ◌∷◌, length, codes, if◌then◌else◌};
+ghost use Rattle.std.specs.Prelude.{◌≡◌, [], ◌∷◌, length, codes, IfOk, if◌then◌else◌};
 ghost use Rattle.std.specs.Str.{bytes_eq};
-ghost use Rattle.logic_core.specs.declared.formula.Formula.{True, False};
+ghost use Rattle.logic_core.specs.declared.formula.Formula.{True, False, Binary};
 ghost use Rattle.tptp_grammar.specs.Reading.{Gives, op_of, with_front, more_from, below_at, inside_at, unit_at, formula_at};
 
-use crate::cursor::{Naming, NotRead, behind, skip};
-use crate::reader::{atom, equation, names};
-use logic_core::{Boxed, Formula, List, Op, Term};
+use crate::atom_reader::{atom, equation};
+use crate::name_reader::{Naming, NotRead, behind, names, skip};
+use logic_core::{Boxed, Formula, List, Memory, Op, Term};
 use std::alloc::Global;
 use tptp_lexer::{Cursor, Kind};
 
@@ -33,6 +33,15 @@ fn connective(kind: Kind) -> Option<Op>
         Kind::Nand => Some(Op::Nand),
         _ => None,
     }
+}
+
+/// A formula of two sides. `Memory` is want of memory.
+fn binary(alloc: Global, op: Op, left: Formula, right: Formula) -> Result<Formula, Memory>
+    ensures { IfOk result (λ formula. formula ≡ Binary op left right) }
+{
+    let left = Boxed::new(alloc, left)?;
+    let right = Boxed::new(alloc, right)?;
+    Ok(Formula::Binary(op, left, right))
 }
 
 /// A unit formula, where so many levels may be opened.
@@ -77,9 +86,9 @@ fn unit<'t, 'a>(
     }
 }
 
-/// What stands below a mark, where so many levels may be opened: a unit formula.
+/// A unit formula below a `~` or a quantifier, where so many levels may be opened.
 #[cycle(formulas)]
-#[tactic(auto, using(crate::proofs::Levels::levels_open))]
+#[tactic(auto, using(crate::proofs::ReaderSteps::levels_open))]
 fn below<'t, 'a>(
     alloc: Global,
     cursor: &Cursor<'t, 'a>,
@@ -93,9 +102,9 @@ fn below<'t, 'a>(
     unit(alloc, cursor, depth - 1)
 }
 
-/// What stands in brackets, where so many levels may be opened: a formula.
+/// A formula in brackets, where so many levels may be opened.
 #[cycle(formulas)]
-#[tactic(auto, using(crate::proofs::Levels::levels_open))]
+#[tactic(auto, using(crate::proofs::ReaderSteps::levels_open))]
 fn inside<'t, 'a>(
     alloc: Global,
     cursor: &Cursor<'t, 'a>,
@@ -111,22 +120,22 @@ fn inside<'t, 'a>(
 
 /// A unit formula in front of further ones, each behind a token of this kind.
 #[cycle(formulas)]
-#[tactic(auto, using(crate::proofs::Further::further))]
+#[tactic(auto, using(crate::proofs::ReaderSteps::further))]
 fn more_units<'t, 'a>(
     alloc: Global,
     first: Formula,
     cursor: Cursor<'t, 'a>,
-    mark: Kind,
+    sign: Kind,
     depth: u32,
 ) -> Result<(List<Formula>, Cursor<'t, 'a>), NotRead>
-    ensures { Gives (λ read. read) result (with_front (first ∷ []) (more_from (unit_at depth) mark (length cursor.entry) cursor.entry)) }
+    ensures { Gives (λ read. read) result (with_front (first ∷ []) (more_from (unit_at depth) sign (length cursor.entry) cursor.entry)) }
 {
     let mut units = List::new(alloc);
     units.push(first)?;
     let count = cursor.len();
     let mut rest = cursor;
     for _ in 0..count {
-        let Some(after) = behind(&rest, mark) else {
+        let Some(after) = behind(&rest, sign) else {
             return Ok((units, rest));
         };
         let (next, tail) = unit(alloc, &after, depth)?;
@@ -138,7 +147,7 @@ fn more_units<'t, 'a>(
 
 /// A formula, where so many levels may be opened.
 #[cycle(formulas)]
-#[tactic(auto, unfolding(crate::specs::Reading::formula_at, crate::specs::Reading::rest_from), using(crate::proofs::Further::chain_read))]
+#[tactic(auto, unfolding(crate::specs::Reading::formula_at, crate::specs::Reading::rest_from), using(crate::proofs::ReaderSteps::chain_read))]
 pub(crate) fn formula<'t, 'a>(
     alloc: Global,
     cursor: &Cursor<'t, 'a>,
@@ -164,9 +173,7 @@ pub(crate) fn formula<'t, 'a>(
                 return Ok((first, rest));
             };
             let (right, rest) = unit(alloc, &after, depth)?;
-            let left = Boxed::new(alloc, first)?;
-            let right = Boxed::new(alloc, right)?;
-            Ok((Formula::Binary(op, left, right), rest))
+            Ok((binary(alloc, op, first, right)?, rest))
         }
     }
 }

@@ -2,14 +2,14 @@
 
 ghost use Rattle.std.specs.Prelude.{◌≡◌, ◌+◌, IfOk};
 ghost use Rattle.tptp_grammar.specs.Stepping.{DoesStep};
-ghost use Rattle.tptp_grammar.specs.declared.symbol.Symbol.TheVariants as parts;
+ghost use Rattle.tptp_grammar.specs.declared.item_part.ItemPart.TheVariants as parts;
 
-use crate::mark::Mark;
-use crate::symbol::Symbol::{
+use crate::item_part::ItemPart::{
     self, AfterWord, AndRest, Binds, BindsRest, ClosesArguments, Connective, Equation, Formula,
     FormulaRest, Opens, OrRest, Quantified, Term, TermsRest, Token, TruthWord, Unitary, Variable,
     Word,
 };
+use crate::mark::Mark;
 use logic_core::Memory;
 use token_grammar::{Step, expand};
 use tptp_lexer::Kind;
@@ -22,7 +22,7 @@ pub(crate) fn inside(level: u32) -> Result<u32, Memory>
 }
 
 // A unit formula, and what follows it.
-pub(crate) fn formula(level: u32, token: Mark, stack: &mut Vec<Symbol>) -> Result<Step, Memory>
+pub(crate) fn formula(level: u32, token: Mark, stack: &mut Vec<ItemPart>) -> Result<Step, Memory>
     ensures { DoesStep (parts.Formula level) token stack.old.items stack.new.items result }
 {
     match token {
@@ -35,7 +35,11 @@ pub(crate) fn formula(level: u32, token: Mark, stack: &mut Vec<Symbol>) -> Resul
 }
 
 // Nothing, a chain, or a connective and its right side.
-pub(crate) fn formula_rest(level: u32, token: Mark, stack: &mut Vec<Symbol>) -> Result<Step, Memory>
+pub(crate) fn formula_rest(
+    level: u32,
+    token: Mark,
+    stack: &mut Vec<ItemPart>,
+) -> Result<Step, Memory>
     ensures { DoesStep (parts.FormulaRest level) token stack.old.items stack.new.items result }
 {
     match token {
@@ -50,7 +54,7 @@ pub(crate) fn formula_rest(level: u32, token: Mark, stack: &mut Vec<Symbol>) -> 
 }
 
 // Nothing, or a further member.
-pub(crate) fn and_rest(level: u32, token: Mark, stack: &mut Vec<Symbol>) -> Result<Step, Memory>
+pub(crate) fn and_rest(level: u32, token: Mark, stack: &mut Vec<ItemPart>) -> Result<Step, Memory>
     ensures { DoesStep (parts.AndRest level) token stack.old.items stack.new.items result }
 {
     match token {
@@ -63,7 +67,7 @@ pub(crate) fn and_rest(level: u32, token: Mark, stack: &mut Vec<Symbol>) -> Resu
 }
 
 // Nothing, or a further member.
-pub(crate) fn or_rest(level: u32, token: Mark, stack: &mut Vec<Symbol>) -> Result<Step, Memory>
+pub(crate) fn or_rest(level: u32, token: Mark, stack: &mut Vec<ItemPart>) -> Result<Step, Memory>
     ensures { DoesStep (parts.OrRest level) token stack.old.items stack.new.items result }
 {
     match token {
@@ -73,7 +77,7 @@ pub(crate) fn or_rest(level: u32, token: Mark, stack: &mut Vec<Symbol>) -> Resul
 }
 
 // A formula in brackets, a negation, a quantified formula, a truth value, or an atom.
-pub(crate) fn unitary(level: u32, token: Mark, stack: &mut Vec<Symbol>) -> Result<Step, Memory>
+pub(crate) fn unitary(level: u32, token: Mark, stack: &mut Vec<ItemPart>) -> Result<Step, Memory>
     ensures { DoesStep (parts.Unitary level) token stack.old.items stack.new.items result }
 {
     match token {
@@ -108,7 +112,7 @@ pub(crate) fn unitary(level: u32, token: Mark, stack: &mut Vec<Symbol>) -> Resul
 }
 
 // A list of variables and a body.
-pub(crate) fn quantified(level: u32, token: Mark, stack: &mut Vec<Symbol>) -> Result<Step, Memory>
+pub(crate) fn quantified(level: u32, token: Mark, stack: &mut Vec<ItemPart>) -> Result<Step, Memory>
     ensures { DoesStep (parts.Quantified level) token stack.old.items stack.new.items result }
 {
     match token {
@@ -128,7 +132,7 @@ pub(crate) fn quantified(level: u32, token: Mark, stack: &mut Vec<Symbol>) -> Re
 }
 
 // Nothing, or a further variable.
-pub(crate) fn binds_rest(level: u32, token: Mark, stack: &mut Vec<Symbol>) -> Result<Step, Memory>
+pub(crate) fn binds_rest(level: u32, token: Mark, stack: &mut Vec<ItemPart>) -> Result<Step, Memory>
     ensures { DoesStep (parts.BindsRest level) token stack.old.items stack.new.items result }
 {
     match token {
@@ -141,7 +145,7 @@ pub(crate) fn binds_rest(level: u32, token: Mark, stack: &mut Vec<Symbol>) -> Re
 }
 
 // Nothing, arguments, or the rest of an equation.
-pub(crate) fn after_word(level: u32, token: Mark, stack: &mut Vec<Symbol>) -> Result<Step, Memory>
+pub(crate) fn after_word(level: u32, token: Mark, stack: &mut Vec<ItemPart>) -> Result<Step, Memory>
     ensures { DoesStep (parts.AfterWord level) token stack.old.items stack.new.items result }
 {
     match token {
@@ -161,7 +165,7 @@ pub(crate) fn after_word(level: u32, token: Mark, stack: &mut Vec<Symbol>) -> Re
 }
 
 // The rest of an equation.
-pub(crate) fn equation(level: u32, token: Mark, stack: &mut Vec<Symbol>) -> Result<Step, Memory>
+pub(crate) fn equation(level: u32, token: Mark, stack: &mut Vec<ItemPart>) -> Result<Step, Memory>
     ensures { DoesStep (parts.Equation level) token stack.old.items stack.new.items result }
 {
     match token {
@@ -172,7 +176,7 @@ pub(crate) fn equation(level: u32, token: Mark, stack: &mut Vec<Symbol>) -> Resu
 }
 
 // A variable, or a constant.
-pub(crate) fn term(level: u32, token: Mark, stack: &mut Vec<Symbol>) -> Result<Step, Memory>
+pub(crate) fn term(level: u32, token: Mark, stack: &mut Vec<ItemPart>) -> Result<Step, Memory>
     ensures { DoesStep (parts.Term level) token stack.old.items stack.new.items result }
 {
     match token {
@@ -183,7 +187,7 @@ pub(crate) fn term(level: u32, token: Mark, stack: &mut Vec<Symbol>) -> Result<S
 }
 
 // Nothing, or a further argument.
-pub(crate) fn terms_rest(level: u32, token: Mark, stack: &mut Vec<Symbol>) -> Result<Step, Memory>
+pub(crate) fn terms_rest(level: u32, token: Mark, stack: &mut Vec<ItemPart>) -> Result<Step, Memory>
     ensures { DoesStep (parts.TermsRest level) token stack.old.items stack.new.items result }
 {
     match token {

@@ -2,9 +2,8 @@ ghost use Rattle.std.specs.Prelude.{◌≡◌, [], length};
 ghost use Rattle.tptp_lexer.specs.declared.kind.Kind.TheVariants as kind;
 ghost use Rattle.tptp_grammar.specs.Reading.{Gives, behind, behind_dot, role_from, fof_from, selection_from, include_from, item_from, items_from, IsReadable};
 
-use crate::cursor::{Naming, NotRead, behind, is_same, name, skip};
 use crate::formula_reader::formula;
-use crate::reader::names;
+use crate::name_reader::{Naming, NotRead, behind, is_same, name, names, skip};
 use crate::role::role_of;
 use logic_core::{Fof, Item, Items, List, Name, Role};
 use std::alloc::Global;
@@ -12,7 +11,7 @@ use text_core::MOST_LEVELS;
 use tptp_lexer::{Cursor, Kind, Tokens};
 
 /// What is left behind the first dot.
-#[tactic(auto, using(crate::proofs::Dots::dots))]
+#[tactic(auto, using(crate::proofs::ReaderSteps::dots))]
 fn behind_dot<'t, 'a>(cursor: Cursor<'t, 'a>) -> Result<Cursor<'t, 'a>, NotRead>
     ensures { Gives (λ rest. rest) result (behind_dot cursor.entry) }
 {

@@ -1,19 +1,19 @@
 //! The steps of an item's parts: each pushes what the token asks for, or refuses.
 
 ghost use Rattle.tptp_grammar.specs.Stepping.{DoesStep};
-ghost use Rattle.tptp_grammar.specs.declared.symbol.Symbol.TheVariants as parts;
+ghost use Rattle.tptp_grammar.specs.declared.item_part.ItemPart.TheVariants as parts;
 
-use crate::mark::Mark;
-use crate::symbol::Symbol::{
+use crate::item_part::ItemPart::{
     self, FofEnd, FofHead, FofTail, FofWord, Formula, General, IncludeHead, IncludeTail,
     IncludeWord, Item, Items, List, Name, NamesRest, RoleWord, Token,
 };
+use crate::mark::Mark;
 use logic_core::Memory;
 use token_grammar::{Step, expand};
 use tptp_lexer::Kind;
 
 // Nothing, or an item and further ones.
-pub(crate) fn items(token: Mark, stack: &mut Vec<Symbol>) -> Result<Step, Memory>
+pub(crate) fn items(token: Mark, stack: &mut Vec<ItemPart>) -> Result<Step, Memory>
     ensures { DoesStep parts.Items token stack.old.items stack.new.items result }
 {
     match token {
@@ -23,7 +23,7 @@ pub(crate) fn items(token: Mark, stack: &mut Vec<Symbol>) -> Result<Step, Memory
 }
 
 // A formula, or an inclusion.
-pub(crate) fn item(token: Mark, stack: &mut Vec<Symbol>) -> Result<Step, Memory>
+pub(crate) fn item(token: Mark, stack: &mut Vec<ItemPart>) -> Result<Step, Memory>
     ensures { DoesStep parts.Item token stack.old.items stack.new.items result }
 {
     match token {
@@ -34,7 +34,7 @@ pub(crate) fn item(token: Mark, stack: &mut Vec<Symbol>) -> Result<Step, Memory>
 }
 
 // `(`, a name, a role and a formula.
-pub(crate) fn fof_head(token: Mark, stack: &mut Vec<Symbol>) -> Result<Step, Memory>
+pub(crate) fn fof_head(token: Mark, stack: &mut Vec<ItemPart>) -> Result<Step, Memory>
     ensures { DoesStep parts.FofHead token stack.old.items stack.new.items result }
 {
     match token {
@@ -55,7 +55,7 @@ pub(crate) fn fof_head(token: Mark, stack: &mut Vec<Symbol>) -> Result<Step, Mem
 }
 
 // The item's end, or an annotation.
-pub(crate) fn fof_tail(token: Mark, stack: &mut Vec<Symbol>) -> Result<Step, Memory>
+pub(crate) fn fof_tail(token: Mark, stack: &mut Vec<ItemPart>) -> Result<Step, Memory>
     ensures { DoesStep parts.FofTail token stack.old.items stack.new.items result }
 {
     match token {
@@ -69,7 +69,7 @@ pub(crate) fn fof_tail(token: Mark, stack: &mut Vec<Symbol>) -> Result<Step, Mem
 }
 
 // The item's end, or the annotation's second part.
-pub(crate) fn fof_end(token: Mark, stack: &mut Vec<Symbol>) -> Result<Step, Memory>
+pub(crate) fn fof_end(token: Mark, stack: &mut Vec<ItemPart>) -> Result<Step, Memory>
     ensures { DoesStep parts.FofEnd token stack.old.items stack.new.items result }
 {
     match token {
@@ -91,7 +91,7 @@ pub(crate) fn fof_end(token: Mark, stack: &mut Vec<Symbol>) -> Result<Step, Memo
 }
 
 // `(` and the file's name.
-pub(crate) fn include_head(token: Mark, stack: &mut Vec<Symbol>) -> Result<Step, Memory>
+pub(crate) fn include_head(token: Mark, stack: &mut Vec<ItemPart>) -> Result<Step, Memory>
     ensures { DoesStep parts.IncludeHead token stack.old.items stack.new.items result }
 {
     match token {
@@ -108,7 +108,7 @@ pub(crate) fn include_head(token: Mark, stack: &mut Vec<Symbol>) -> Result<Step,
 }
 
 // The item's end, or a selection of names.
-pub(crate) fn include_tail(token: Mark, stack: &mut Vec<Symbol>) -> Result<Step, Memory>
+pub(crate) fn include_tail(token: Mark, stack: &mut Vec<ItemPart>) -> Result<Step, Memory>
     ensures { DoesStep parts.IncludeTail token stack.old.items stack.new.items result }
 {
     match token {
@@ -133,7 +133,7 @@ pub(crate) fn include_tail(token: Mark, stack: &mut Vec<Symbol>) -> Result<Step,
 }
 
 // Nothing, or a further name.
-pub(crate) fn names_rest(token: Mark, stack: &mut Vec<Symbol>) -> Result<Step, Memory>
+pub(crate) fn names_rest(token: Mark, stack: &mut Vec<ItemPart>) -> Result<Step, Memory>
     ensures { DoesStep parts.NamesRest token stack.old.items stack.new.items result }
 {
     match token {

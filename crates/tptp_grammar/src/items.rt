@@ -1,63 +1,68 @@
-ghost use Rattle.std.specs.Prelude.{◌≡◌, List, IfOk, IfErr, OnOk, MatchResult};
-ghost use Rattle.logic_core.specs.declared.problem.Item.{Item};
-ghost use Rattle.tptp_grammar.specs.declared.refusal.SyntaxRefusal.{SyntaxRefusal as Fault};
+ghost use Rattle.std.specs.Prelude.{◌≡◌, ◌⊎◌, IfOk, IfErr, OnOk};
+ghost use Rattle.text_core.specs.Exact.{Exact};
 ghost use Rattle.tptp_grammar.specs.declared.refusal.SyntaxRefusal.TheVariants as refusals;
 ghost use Rattle.tptp_grammar.specs.Marks.{marks_of};
 ghost use Rattle.tptp_grammar.specs.Told.{Tells, IsAcceptedText, IsMachineRefusal, limited};
+ghost use Rattle.tptp_grammar.specs.Spells.{AreItemsOf};
 ghost use Rattle.tptp_grammar.specs.Texts as texts;
-ghost use Rattle.tptp_grammar.specs.Texts.{AreItemsOf, SyntaxFault, IsSyntaxRefusal, IsOrMemory};
+ghost use Rattle.tptp_grammar.specs.Texts.{SyntaxFault};
 
-use crate::cursor::NotRead;
+use crate::item_part::ItemPart;
 use crate::item_reader::read_text;
 use crate::limit::Limit;
-use crate::mark::{Mark, marks};
+use crate::mark::Mark;
+use crate::marks::Marks;
+use crate::name_reader::NotRead;
 use crate::refusal::SyntaxRefusal;
 use crate::scopes::Scopes;
-use crate::symbol::Symbol;
 use logic_core::{Items, Memory};
 use std::alloc::Global;
-use token_grammar::{Refusal, recognize};
+use token_grammar::{Refusal, Source, recognize};
 use tptp_lexer::{Kind, Tokens};
 
 /// Whether a token that is refused behind this part's token would make a term with arguments.
-fn makes_function(last: Option<Symbol>, mark: Mark) -> bool
+fn makes_function(last: Option<ItemPart>, mark: Mark) -> bool
     ensures { result ≡ texts.makes_function last mark }
 {
     match (last, mark) {
-        (Some(Symbol::Word), Mark::Other(Kind::OpenParenthesis)) => true,
-        (Some(Symbol::ClosesArguments), Mark::Other(Kind::Equal | Kind::NotEqual)) => true,
+        (Some(ItemPart::Word), Mark::Other(Kind::OpenParenthesis)) => true,
+        (Some(ItemPart::ClosesArguments), Mark::Other(Kind::Equal | Kind::NotEqual)) => true,
         _ => false,
     }
 }
 
-/// The refusal of a token at a place of the source by the watcher.
-fn limited(limit: Limit, place: u32) -> SyntaxRefusal
-    ensures { result ≡ limited limit place }
+/// The refusal by the watcher of the token at this offset of the source.
+fn limited(limit: Limit, offset: u32) -> SyntaxRefusal
+    ensures { result ≡ limited limit offset }
 {
     match limit {
-        Limit::TooDeep => SyntaxRefusal::TooDeep(place),
-        Limit::UnknownRole => SyntaxRefusal::Role(place),
-        Limit::FreeVariable => SyntaxRefusal::FreeVariable(place),
+        Limit::TooDeep => SyntaxRefusal::TooDeep(offset),
+        Limit::UnknownRole => SyntaxRefusal::Role(offset),
+        Limit::FreeVariable => SyntaxRefusal::FreeVariable(offset),
     }
 }
 
 /// How the machine's refusal of the tokens is told.
-fn told(tokens: &Tokens<'_>, marks: &[Mark], refusal: Refusal<Symbol, Limit>) -> SyntaxRefusal
+fn told(
+    tokens: &Tokens<'_>,
+    marks: &Marks<'_, '_>,
+    refusal: Refusal<ItemPart, Limit>,
+) -> SyntaxRefusal
     requires marks { marks.now ≡ marks_of tokens.now.tokens }
     requires refused { IsMachineRefusal tokens.now refusal }
     ensures { Tells tokens.now refusal result }
 {
     match refusal {
         Refusal::Memory => SyntaxRefusal::Memory,
-        Refusal::Unexpected { place, last } => {
-            let start = tokens.start(place);
-            if makes_function(last, marks[place]) {
-                SyntaxRefusal::FunctionTerm(start)
+        Refusal::Unexpected { number, last } => {
+            let offset = tokens.start(number);
+            if makes_function(last, marks.mark(number)) {
+                SyntaxRefusal::FunctionTerm(offset)
             } else {
-                SyntaxRefusal::Unexpected(start)
+                SyntaxRefusal::Unexpected(offset)
             }
         }
-        Refusal::Stopped { place, fault } => limited(fault, tokens.start(place)),
+        Refusal::Stopped { number, fault } => limited(fault, tokens.start(number)),
         Refusal::EndsEarly => SyntaxRefusal::EndOfText(tokens.source_len()),
     }
 }
@@ -65,13 +70,13 @@ fn told(tokens: &Tokens<'_>, marks: &[Mark], refusal: Refusal<Symbol, Limit>) ->
 /// Whether the tokens are a text, by the machine that reads any grammar.
 fn check_text(alloc: Global, tokens: &Tokens<'_>) -> Result<(), SyntaxRefusal>
     ensures accepted { OnOk result (IsAcceptedText (marks_of tokens.now.tokens)) }
-    ensures refused { IfErr result (λ refusal. IsSyntaxRefusal tokens.now refusal) }
+    ensures refused { IfErr result (λ refusal. (refusal ≡ refusals.Memory) ⊎ SyntaxFault tokens.now refusal) }
 {
-    let marks = marks(alloc, tokens)?;
+    let marks = Marks::new(alloc, tokens)?;
     let mut scopes = Scopes::new(alloc);
-    match recognize(alloc, Symbol::Items, &marks, &mut scopes) {
+    match recognize(alloc, ItemPart::Items, &marks, &mut scopes) {
         Ok(()) => Ok(()),
-        Err(refusal) => Err(told(tokens, marks.as_slice(), refusal)),
+        Err(refusal) => Err(told(tokens, &marks, refusal)),
     }
 }
 
@@ -89,17 +94,13 @@ fn read_accepted(alloc: Global, tokens: &Tokens<'_>) -> Result<Items, Memory>
     }
 }
 
-/// The items that the tokens of a source are a text of. Otherwise the refusal of the first token that is refused, or of the end of the
-/// text; `Memory` is want of memory. Source: the TPTP syntax, FOF.
+/// The items that the tokens of a source are a text of. Otherwise the refusal of the first token
+/// that is refused, or of the end of the text; `Memory` is want of memory. Source: the TPTP syntax,
+/// FOF.
 pub fn read_items(alloc: Global, tokens: &Tokens<'_>) -> Result<Items, SyntaxRefusal>
-    ensures text { IfOk result (λ items. AreItemsOf tokens.now.tokens items) }
-    ensures refused { IfErr result (λ refusal. IsSyntaxRefusal tokens.now refusal) }
-    // Where the tokens are a text of items, the answer is those, unless memory runs out.
-    ensures found { (items : List Item) → AreItemsOf tokens.now.tokens items
-        → MatchResult result (λ read. read ≡ items) (λ refusal. refusal ≡ refusals.Memory) }
-    // Where a token or the end of the text is refused, the answer is that refusal, unless memory runs out.
-    ensures told { (fault : Fault) → SyntaxFault tokens.now fault
-        → MatchResult result (λ read. ⊥) (λ refusal. IsOrMemory fault refusal) }
+    // The items that there are, or the refusal that there is; want of memory may come in place of
+    // either.
+    ensures { Exact (AreItemsOf tokens.now.tokens) (SyntaxFault tokens.now) refusals.Memory result }
 {
     match check_text(alloc, tokens) {
         Ok(()) => Ok(read_accepted(alloc, tokens)?),

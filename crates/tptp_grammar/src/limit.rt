@@ -3,7 +3,7 @@
 pub enum Limit {
     /// It opens a level above `MOST_LEVELS`.
     TooDeep,
-    /// It stands in the place of a role and tells none.
+    /// It is where a role has to be, and tells none.
     UnknownRole,
     /// It is a variable in a term that no quantifier binds.
     FreeVariable,

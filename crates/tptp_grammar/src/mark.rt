@@ -1,17 +1,12 @@
-ghost use Rattle.std.specs.Prelude.{◌≡◌, ◌+◌, ◌<◌, List, Some, length, slice_get, take, unwrap_or, IfOk, OnOk, if◌then◌else◌};
-ghost use Rattle.std.specs.Str.{bytes_eq};
-ghost use Rattle.text_core.specs.Names.{Text};
+ghost use Rattle.std.specs.Prelude.{◌≡◌, List};
 ghost use Rattle.tptp_lexer.specs.declared.kind.Kind.TheVariants.{Upper};
 ghost use Rattle.tptp_lexer.specs.Tokens.{Token};
-ghost use Rattle.tptp_grammar.specs.Marks.{lower_mark, dollar_mark, marked, marks_of};
-ghost use Rattle.tptp_grammar.specs.Symbols.{is_kind, is_lower, is_word, is_name, is_upper, is_plain};
-ghost use Rattle.tptp_grammar.specs.Numbering.{number_in, AreNumbers};
+ghost use Rattle.tptp_grammar.specs.Marks.{lower_mark, dollar_mark, marked};
+ghost use Rattle.tptp_grammar.specs.Parts.{is_kind, is_lower, is_word, is_name, is_upper, is_plain};
 
 use crate::role::role_of;
-use logic_core::{Memory, Op, Role};
-use std::alloc::Global;
-use std::collections::HashMap;
-use tptp_lexer::{Kind, Tokens};
+use logic_core::{Op, Role};
+use tptp_lexer::Kind;
 
 /// What the grammar looks at in a token.
 #[derive(Clone, Copy, Debug)]
@@ -79,59 +74,8 @@ impl Mark {
     }
 }
 
-/// The marks of all tokens, in order. `Memory` is want of memory.
-pub(crate) fn marks(alloc: Global, tokens: &Tokens<'_>) -> Result<Vec<Mark>, Memory>
-    ensures { IfOk result (λ marks. marks.items ≡ marks_of tokens.now.tokens) }
-{
-    // A source has no more tokens than bytes, so a token's place fits.
-    tokens.source_len();
-    let mut numbers = HashMap::new(alloc);
-    let mut marks = Vec::with_capacity(alloc, tokens.len())?;
-    for place in 0..tokens.len() as u32 {
-        marks.push(mark_at(tokens, place, &mut numbers)?)?;
-    }
-    Ok(marks)
-}
-
-// The mark of the token at the place, with the numbers of the upper words before it.
-fn mark_at<'a>(
-    tokens: &Tokens<'a>,
-    place: u32,
-    numbers: &mut HashMap<&'a [u8], u32>,
-) -> Result<Mark, Memory>
-    requires within { place < length tokens.now.tokens }
-    requires before { AreNumbers (take place tokens.now.tokens) (number_in numbers.old) }
-    ensures mark { IfOk result (λ mark. slice_get (marks_of tokens.now.tokens) place ≡ Some mark) }
-    ensures after { OnOk result (AreNumbers (take (place + 1) tokens.now.tokens) (number_in numbers.new)) }
-{
-    let text = tokens.text(place as usize);
-    match tokens.kind(place as usize) {
-        Kind::Upper => Ok(Mark::Upper(number_of(numbers, text, place)?)),
-        kind => Ok(mark_of(kind, text)),
-    }
-}
-
-// The number of the word, which is the place where it has none before.
-fn number_of<'a>(
-    numbers: &mut HashMap<&'a [u8], u32>,
-    word: &'a [u8],
-    place: u32,
-) -> Result<u32, Memory>
-    ensures number { IfOk result (λ number. number ≡ unwrap_or (number_in numbers.old word.now) place) }
-    ensures noted { IfOk result (λ number. (text : Text) → number_in numbers.new text
-        ≡ (if bytes_eq word.now text then Some number else number_in numbers.old text)) }
-{
-    match numbers.get(word) {
-        Some(number) => Ok(*number),
-        None => {
-            numbers.insert(word, place)?;
-            Ok(place)
-        }
-    }
-}
-
-// The mark of a token that is no upper word.
-fn mark_of(kind: Kind, text: &[u8]) -> Mark
+/// The mark of a token that is no upper word.
+pub(crate) fn mark_of(kind: Kind, text: &[u8]) -> Mark
     requires { kind ≡ Upper → ⊥ }
     ensures { (ts : List Token) → result ≡ marked ts kind text.now }
 {

@@ -8,7 +8,8 @@ use std::alloc::Global;
 use std::marker::Model;
 use text_core::MOST_LEVELS;
 
-/// A variable that a quantifier binds: the level that the quantifier opened, and the variable's number.
+/// A variable that a quantifier binds: the level that the quantifier opened, and the variable's
+/// number.
 #[derive(Clone, Copy, Debug)]
 pub struct Binding {
     pub level: u32,
@@ -46,8 +47,8 @@ impl Scopes {
         }
     }
 
-    /// A token opens this level, so that what older tokens bound at it or above ends. `TooDeep` where it is above
-    /// `MOST_LEVELS`.
+    /// A token opens this level, so that what older tokens bound at it or above ends. `TooDeep`
+    /// where it is above `MOST_LEVELS`.
     pub fn open(&mut self, level: u32) -> Result<(), Limit>
         ensures { IsLook (opened level self.old) self.new result }
     {
@@ -58,8 +59,8 @@ impl Scopes {
         Ok(())
     }
 
-    /// A quantifier that opened this level binds the variable with this number. `Memory` is want of memory, and the bindings
-    /// are as before.
+    /// A quantifier that opened this level binds the variable with this number. `Memory` is want of
+    /// memory, and the bindings are as before.
     pub fn bind(&mut self, level: u32, variable: u32) -> Result<(), Memory>
         ensures ok { OnOk result (self.new ≡ record { level = level; variable = variable } ∷ self.old) }
         ensures err { OnErr result (self.new ≡ self.old) }
@@ -81,14 +82,14 @@ impl Scopes {
         Ok(())
     }
 
-    // Takes away the bindings of levels above this one. They are the newest ones, unless a binding was added at a level
-    // below that of an older one, which no text does; then all are looked at.
+    // Takes away the bindings of levels above this one. They are the newest ones, unless a binding
+    // was added at a level below that of an older one, which no text does; then all are looked at.
     fn close(&mut self, level: u32)
         ensures { self.new ≡ open_at level self.old }
     {
-        for place in (0..self.bindings.len()).rev() {
-            if self.bindings.get(place).level > level {
-                self.bindings.remove(place);
+        for number in (0..self.bindings.len()).rev() {
+            if self.bindings.get(number).level > level {
+                self.bindings.remove(number);
             } else if self.in_order {
                 break;
             }

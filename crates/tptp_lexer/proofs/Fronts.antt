@@ -1,4 +1,4 @@
--- What a piece says of the bytes at whose front it stands.
+-- What a piece says of the bytes at whose front it is.
 use Rattle.std.proofs.Common.{◌≡◌, ℕ, ◌+◌, ◌==◌, ◌⊎◌, Bool, true, false, cond, [], ◌∷◌, ◌++◌, length, refl, ap, sym, ◌∙◌, Some, None, append_assoc, length-append}
 use Rattle.std.specs.List.{list_all, prefix_len}
 use Rattle.std.proofs.lemmas.Bool.{eqb-true}
@@ -10,7 +10,7 @@ use Rattle.tptp_lexer.specs.Kinds.{kind_of, begins_with}
 use Rattle.tptp_lexer.specs.Tokens.{is_blank, IsComment, IsLongest}
 use Rattle.tptp_lexer.specs.Refused.{BeginsNothing, HasStray, IsOpenQuote, IsOpenComment, IsEmptyQuote}
 use Rattle.tptp_lexer.proofs.Heads.{empty_kind}
-use Rattle.tptp_lexer.proofs.Runs.{Run, run_of, broken, stopped_at}
+use Rattle.tptp_lexer.proofs.Runs.{Run, run_of, stops, broken, stopped_at}
 
 -- a blank or a comment of so many bytes is at the front
 pub record GapFront (len : ℕ) (bytes : Text) : Type 0 where
@@ -28,6 +28,7 @@ pub record FoundFront (kind : Kind) (len : ℕ) (bytes : Text) : Type 0 where
   pub count : len ≡ length text
   pub longest : IsLongest kind text rest
 
+-- what a piece says of the bytes
 abbrev pub Means : Piece → Text → Type 0
 Means End bytes = bytes ≡ []
 Means (Gap len) bytes = GapFront len bytes
@@ -39,6 +40,14 @@ Means EmptyQuote bytes = IsEmptyQuote bytes
 
 -- a token that goes on with bytes of a class
 module _ (p : ℕ → Bool) (kind : Kind) (head : Text) (test : (cs : Text) → kind_of (head ++ cs) ≡ cond (list_all p cs) (Some kind) None) where
+  -- the head and bytes of the class are the longest token in front of a rest that does not begin with one
+  pub run_longest : (run rest : Text) → list_all p run ≡ true → stops p rest ≡ true → IsLongest kind (head ++ run) rest
+  run_longest run rest all stopped = record {
+    token = test run ∙ rw all;
+    longest = λ b more after e. rw append_assoc (test (run ++ b ∷ more) ∙ rw (broken p run b more (stopped_at p rest b (more ++ after) e stopped)));
+  }
+
+  -- such a token is at the front
   pub run_found : (bs : Text) → FoundFront kind (length head + prefix_len p bs) (head ++ bs)
   run_found bs = go (run_of p bs)
     where
@@ -48,15 +57,12 @@ module _ (p : ℕ → Bool) (kind : Kind) (head : Text) (test : (cs : Text) → 
         rest = r.rest;
         split = ap (λ (xs : Text). head ++ xs) r.split ∙ sym (append_assoc head r.run r.rest);
         count = ap (λ (n : ℕ). length head + n) r.count ∙ sym (length-append head r.run);
-        longest = record {
-          token = test r.run ∙ rw r.all;
-          longest = λ b more after e. rw append_assoc (test (r.run ++ b ∷ more) ∙ rw (broken p r.run b more (stopped_at p r.rest b (more ++ after) e r.stopped)));
-        };
+        longest = run_longest r.run r.rest r.all r.stopped;
       }
 
 -- a token that does not go on
-pub mark_found : (kind : Kind) (text bs : Text) → kind_of text ≡ Some kind → ((c : ℕ) (cs after : Text) → bs ≡ c ∷ cs ++ after → kind_of (text ++ c ∷ cs) ≡ None) → FoundFront kind (length text) (text ++ bs)
-mark_found kind text bs token longest = record { text = text; rest = bs; split = refl; count = refl; longest = record { token = token; longest = longest } }
+pub token_found : (kind : Kind) (text bs : Text) → kind_of text ≡ Some kind → ((c : ℕ) (cs after : Text) → bs ≡ c ∷ cs ++ after → kind_of (text ++ c ∷ cs) ≡ None) → FoundFront kind (length text) (text ++ bs)
+token_found kind text bs token longest = record { text = text; rest = bs; split = refl; count = refl; longest = record { token = token; longest = longest } }
 
 -- no front is a token where none that holds the first byte is
 pub no_front : (b : ℕ) (bs : Text) → ((cs after : Text) → bs ≡ cs ++ after → kind_of (b ∷ cs) ≡ None) → (text rest : Text) → b ∷ bs ≡ text ++ rest → kind_of text ≡ None

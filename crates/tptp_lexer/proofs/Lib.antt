@@ -1,10 +1,10 @@
-pub mod Numbers
+pub mod Apart
 pub mod Quotes
 pub mod Comments
 pub mod Heads
 pub mod Runs
 pub mod Fronts
-pub mod Marks
+pub mod Signs
 pub mod Bodies
 pub mod Blocks
 pub mod Words
@@ -20,3 +20,5 @@ pub mod Exact
 pub mod Spelled
 pub mod Names
 pub mod Order
+pub mod Whole
+pub mod Laws

@@ -1,4 +1,4 @@
--- At one place stands one longest token.
+-- At one front is one longest token.
 use Rattle.std.proofs.Common.{◌≡◌, ◌⊎◌, inl, inr, [], ◌∷◌, ◌++◌, refl, ap, sym, ◌∙◌, append-nil}
 use Rattle.text_core.specs.Names.{Text}
 use Rattle.tptp_lexer.specs.declared.kind.Kind.{Kind}
@@ -11,6 +11,7 @@ pub record GoesOn (a x b y : Text) : Type 0 where
   pub long : b ≡ a ++ more
   pub short : x ≡ more ++ y
 
+-- two fronts of the same bytes
 pub fronts : (a x b y : Text) → a ++ x ≡ b ++ y → GoesOn a x b y ⊎ GoesOn b y a x
 fronts [] x b y e = inl (record { more = b; long = refl; short = e })
 fronts (c ∷ a) x [] y e = inr (record { more = c ∷ a; long = refl; short = sym e })
@@ -31,6 +32,7 @@ nothing_more j k a x b y f s g = go g.more g.long g.short
     go [] l e = sym (l ∙ append-nil a)
     go (c ∷ cs) l e = let none = f.longest c cs y e in let some = ap kind_of (sym l) ∙ s.token in absurd (cc)
 
+-- two longest tokens at one front are the same
 pub one_longest : (j k : Kind) (a x b y : Text) → a ++ x ≡ b ++ y → IsLongest j a x → IsLongest k b y → (j ≡ k) × (a ≡ b)
 one_longest j k a x b y e f s = go (fronts a x b y e)
   where

@@ -17,6 +17,7 @@ After o at bytes ts (piece.Gap n) = Reads (EndsBy o) (at + n) (drop n bytes) ts
 After o at bytes ts (piece.Found kind n) = (us : List Token) × (ts ≡ record { kind = kind; start = at; text = take n bytes } ∷ us) × Reads (EndsBy o) (at + n) (drop n bytes) us
 After o at bytes ts p = (outcome_at at p ≡ Some o) × (ts ≡ [])
 
+-- a reading that ends here
 stopped : (o : Option LexRefusal) (at : ℕ) (bytes : Text) (p : Piece) → outcome_at at p ≡ Some o → After o at bytes [] p
 stopped o at bytes piece.End e = (e, refl)
 stopped o at bytes (piece.Gap n) e = absurd (cc)
@@ -26,6 +27,7 @@ stopped o at bytes piece.OpenQuote e = (e, refl)
 stopped o at bytes piece.OpenComment e = (e, refl)
 stopped o at bytes piece.EmptyQuote e = (e, refl)
 
+-- each reading goes on behind the piece at its front
 pub after : (o : Option LexRefusal) (at : ℕ) (bytes : Text) (ts : List Token) → Reads (EndsBy o) at bytes ts → After o at bytes ts (piece_at bytes)
 after o at bytes _ (stop h) = stopped o at bytes (piece_at bytes) (ended o at bytes h)
 after o at _ ts (blank {b = b} {rest = rest} h r) = subst (After o at (b ∷ rest) ts) (sym (blank_piece b rest h)) r
@@ -40,6 +42,7 @@ after o at bytes _ (token {ts = us} kind text rest e l r) =
     subst (After o at bytes (record { kind = kind; start = at; text = text } ∷ us)) (sym p)
     (us, ap (λ (xs : Text). record { kind = kind; start = at; text = xs } ∷ us) front, subst (λ (xs : Text). Reads (EndsBy o) (at + length text) xs us) left r)
 
+-- two readings that end here
 both_stop : (o p : Option LexRefusal) (at : ℕ) (bytes : Text) (us : List Token) (q : Piece) → outcome_at at q ≡ Some o → After p at bytes us q → (o ≡ p) × (◌≡◌ {A = List Token} [] us)
 both_stop o p at bytes us piece.End e a = let f = a.0 in (cc, sym a.1)
 both_stop o p at bytes us (piece.Gap n) e a = absurd (cc)
@@ -49,6 +52,7 @@ both_stop o p at bytes us piece.OpenQuote e a = let f = a.0 in (cc, sym a.1)
 both_stop o p at bytes us piece.OpenComment e a = let f = a.0 in (cc, sym a.1)
 both_stop o p at bytes us piece.EmptyQuote e a = let f = a.0 in (cc, sym a.1)
 
+-- two readings are the same
 pub one_reading : (o p : Option LexRefusal) (at : ℕ) (bytes : Text) (ts us : List Token) → Reads (EndsBy o) at bytes ts → Reads (EndsBy p) at bytes us → (o ≡ p) × (ts ≡ us)
 one_reading o p at bytes _ us (stop h) s = both_stop o p at bytes us (piece_at bytes) (ended o at bytes h) (after p at bytes us s)
 one_reading o p at _ ts us (blank {b = b} {rest = rest} h r) s = one_reading o p (at + 1) rest ts us r (subst (After p at (b ∷ rest) us) (blank_piece b rest h) (after p at (b ∷ rest) us s))

@@ -9,8 +9,10 @@ use Rattle.tptp_lexer.specs.declared.token_list.Span.{Span}
 use Rattle.tptp_lexer.specs.Kinds.{kind_of}
 use Rattle.tptp_lexer.specs.Spans.{token_of, IsWithin}
 use Rattle.tptp_lexer.specs.First.{first_of}
-use Rattle.tptp_lexer.specs.Tokens.{Token, Lexed, Reads, AreTokens, IsEnd, ends_of, stop, blank, comment, token, end_of, kinds_of, texts_of, names_of, named}
+use Rattle.tptp_lexer.specs.Tokens.{Token, Reads, AreTokens, IsEnd, stop, blank, comment, token, named}
+use Rattle.tptp_lexer.specs.Columns.{Lexed, ends_of, end_of, kinds_of, texts_of, names_of}
 
+-- what the span with a number gives
 picked : {X : Type 0} (f : Token → X) (source : Text) (spans : List Span) (at : ℕ) (d : Span) → at < length spans → slice_get (map f (map (token_of source) spans)) at ≡ Some (f (token_of source (get_or spans at d)))
 picked f source [] at d h = absurd (omega arith)
 picked f source (s ∷ ss) zero d h = refl
@@ -39,11 +41,12 @@ kind_at left from bytes _ (suc at) text (token {ts = ts} kind t rest s l r) e = 
 pub kind_seen : (source : Text) (spans : List Span) (v : Lexed) (at : ℕ) (text : Text) → record { source = source; tokens = map (token_of source) spans } ≡ v → AreTokens source (map (token_of source) spans) → slice_get (texts_of v.tokens) at ≡ Some text → slice_get (kinds_of v.tokens) at ≡ kind_of text
 kind_seen source spans v at text e r h = kind_at IsEnd 0 source v.tokens at text (subst (AreTokens source) (ap (λ (w : Lexed). w.tokens) e) r) h
 
+-- where the token with a number ends
 pub end_seen : (source : Text) (spans items : List Span) (v : Lexed) (at : ℕ) (d : Span) → record { source = source; tokens = map (token_of source) spans } ≡ v → items ≡ spans → at < length v.tokens → All (IsWithin source) spans → slice_get (ends_of v.tokens) at ≡ Some (get_or items at d).end
 end_seen source spans items v at d e i h w =
     seen_at end_of source spans items v at d e i h ∙ ap Some (end_is source (get_or items at d) (subst (All (IsWithin source)) (sym i) w at d (let l = ap length (ap (λ (w : Lexed). w.tokens) e) in let m = length-map spans (token_of source) in let n = ap length i in omega arith)))
 
--- the token that stands at a place
+-- the token with a number
 pub token_seen : (source : Text) (spans items : List Span) (v : Lexed) (at : ℕ) (d : Span) → record { source = source; tokens = map (token_of source) spans } ≡ v → items ≡ spans → at < length v.tokens → slice_get v.tokens at ≡ Some (token_of source (get_or items at d))
 token_seen source spans items v at d e i h = sym (ap (λ (ts : List Token). slice_get ts at) (map-id v.tokens)) ∙ seen_at (λ (t : Token). t) source spans items v at d e i h
 
@@ -53,7 +56,7 @@ token_kind source spans items v at d e r i h =
     let text = seen_at (λ (t : Token). t.text) source spans items v at d e i h in
     sym (kind_seen source spans v at (token_of source (get_or items at d)).text e r text) ∙ seen_at (λ (t : Token). t.kind) source spans items v at d e i h
 
--- the tokens from a place on are the one that stands there, and those behind it
+-- the tokens from a number on are the one with this number, and those behind it
 pub first_seen : (ts : List Token) (at : ℕ) (t : Token) → slice_get ts at ≡ Some t → Some (t, drop (at + 1) ts) ≡ first_of (drop at ts)
 first_seen ts at t h = ap (λ (x : Token). Some (x, drop (at + 1) ts)) (sym (get_or_from_slice_get ts at t t h)) ∙ sym (ap first_of (drop_more ts at t (slice_get_within ts at t h)))
 

@@ -1,4 +1,4 @@
--- What stands first from a place of some tokens on.
+-- The first of some tokens.
 use Rattle.std.specs.Prelude.{List, [], ◌∷◌, Option, Some, None}
 use Rattle.tptp_lexer.specs.Tokens.{Token}
 

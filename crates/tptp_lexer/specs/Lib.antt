@@ -1,5 +1,7 @@
 pub mod Kinds
 pub mod Tokens
+pub mod Columns
+pub mod Order
 pub mod First
 pub mod Refused
 pub mod Scanning

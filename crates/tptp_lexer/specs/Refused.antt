@@ -1,4 +1,4 @@
--- The first place of a text that is refused, where the text has no tokens.
+-- The first refused offset of a text that has no tokens.
 use Rattle.std.specs.Prelude.{◌≡◌, ℕ, ◌+◌, ◌==◌, Bool, true, false, not, ◌&&◌, ◌||◌, List, [], ◌∷◌, ◌++◌, length, Option, Some, None, ◌⊎◌, ⊤}
 use Rattle.text_core.specs.Names.{Text}
 use Rattle.tptp_lexer.specs.declared.refusal.LexRefusal.{LexRefusal}
@@ -18,40 +18,47 @@ begins_comment (b ∷ bs) = b == 37 || b == 47 && begins_with 42 bs
 -- the first byte begins no token, blank, comment or quote
 abbrev pub BeginsNothing : Text → Type 0
 BeginsNothing [] = ⊥
-BeginsNothing (b ∷ bs) = (is_blank b ≡ false) × (begins_comment (b ∷ bs) ≡ false) × (is_quote b ≡ false) × ((text rest : Text) → b ∷ bs ≡ text ++ rest → kind_of text ≡ None)
+BeginsNothing (b ∷ bs) =
+    (is_blank b ≡ false) × (begins_comment (b ∷ bs) ≡ false) × (is_quote b ≡ false) ×
+    ((text rest : Text) → b ∷ bs ≡ text ++ rest → kind_of text ≡ None)
 
--- behind a backslash the first byte may not stand between quotes q
+-- behind a backslash the first byte may not be between quotes q
 abbrev pub is_wrong_escape : ℕ → Text → Bool
 is_wrong_escape q [] = false
 is_wrong_escape q (b ∷ bs) = not (is_escapable q b)
 
--- the first byte may not stand behind the quote q: it is not printable, or the backslash (92) of a wrong escape
+-- the first byte may not be behind the quote q: not printable, or the backslash of a wrong escape
 abbrev pub is_stray : ℕ → Text → Bool
 is_stray q [] = false
 is_stray q (b ∷ bs) = not (is_printable b) || b == 92 && is_wrong_escape q bs
 
--- behind a quote at the front stand bytes that may stand there, and this many bytes from the quote one that may not
+-- behind a quote are bytes that may be there, and so far from the quote one that may not be there
 abbrev pub HasStray : Text → ℕ → Type 0
-HasStray bytes n = (q : ℕ) × (body : Text) × (rest : Text) × (bytes ≡ q ∷ body ++ rest) × (is_quote q ≡ true) × (is_body q body ≡ true) × (is_stray q rest ≡ true) × (n ≡ 1 + length body)
+HasStray bytes n =
+    (q : ℕ) × (body : Text) × (rest : Text) × (bytes ≡ q ∷ body ++ rest) × (is_quote q ≡ true) ×
+    (is_body q body ≡ true) × (is_stray q rest ≡ true) × (n ≡ 1 + length body)
 
--- each byte behind the quote at the front may stand there, up to the end of the text; a backslash may be the last byte
+-- each byte behind the quote may be there, up to the end of the text, where a backslash may be
 abbrev pub IsOpenQuote : Text → Type 0
-IsOpenQuote bytes = (q : ℕ) × (body : Text) × (rest : Text) × (bytes ≡ q ∷ body ++ rest) × (is_quote q ≡ true) × (is_body q body ≡ true) × ((rest ≡ []) ⊎ (rest ≡ 92 ∷ []))
+IsOpenQuote bytes =
+    (q : ℕ) × (body : Text) × (rest : Text) × (bytes ≡ q ∷ body ++ rest) × (is_quote q ≡ true) ×
+    (is_body q body ≡ true) × ((rest ≡ []) ⊎ (rest ≡ 92 ∷ []))
 
 -- no `*/` closes the comment at the front
 abbrev pub IsOpenComment : Text → Type 0
 IsOpenComment bytes = (body : Text) × (bytes ≡ 47 ∷ 42 ∷ body) × (is_unclosed body ≡ true)
 
--- `''` stands at the front
+-- `''` is at the front
 abbrev pub IsEmptyQuote : Text → Type 0
 IsEmptyQuote bytes = (rest : Text) × (bytes ≡ 39 ∷ 39 ∷ rest)
 
--- the refusal is that of the bytes that stand from a place on
+-- the refusal is that of the bytes from an offset on
 abbrev pub IsRefused : LexRefusal → ℕ → Text → Type 0
-IsRefused (BadByte place) at bytes = (BeginsNothing bytes × (place ≡ at)) ⊎ ((n : ℕ) × HasStray bytes n × (place ≡ at + n))
-IsRefused (OpenQuote place) at bytes = IsOpenQuote bytes × (place ≡ at)
-IsRefused (OpenComment place) at bytes = IsOpenComment bytes × (place ≡ at)
-IsRefused (EmptyQuote place) at bytes = IsEmptyQuote bytes × (place ≡ at)
+IsRefused (BadByte offset) at bytes =
+    (BeginsNothing bytes × (offset ≡ at)) ⊎ ((n : ℕ) × HasStray bytes n × (offset ≡ at + n))
+IsRefused (OpenQuote offset) at bytes = IsOpenQuote bytes × (offset ≡ at)
+IsRefused (OpenComment offset) at bytes = IsOpenComment bytes × (offset ≡ at)
+IsRefused (EmptyQuote offset) at bytes = IsEmptyQuote bytes × (offset ≡ at)
 IsRefused Memory at bytes = ⊥
 
 -- how the reading of a text ends: all is read, or it is refused
@@ -59,7 +66,7 @@ abbrev pub EndsBy : Option LexRefusal → ℕ → Text → Type 0
 EndsBy None = IsEnd
 EndsBy (Some refusal) = IsRefused refusal
 
--- the first refused place of the bytes: before it, or before the quote that holds it, stand tokens, blanks and comments
+-- the first refusal of the bytes: before it, or the quote that holds it, are tokens, blanks, comments
 abbrev pub LexFault : Text → LexRefusal → Type 0
 LexFault bytes refusal = (before : List Token) × Reads (IsRefused refusal) 0 bytes before
 

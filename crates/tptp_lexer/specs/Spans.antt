@@ -6,7 +6,8 @@ use Rattle.tptp_lexer.specs.Tokens.{Token}
 
 -- the token that a span of the source is
 abbrev pub token_of : Text → Span → Token
-token_of source span = record { kind = span.kind; start = span.start; text = slice_range source span.start span.end }
+token_of source span =
+    record { kind = span.kind; start = span.start; text = slice_range source span.start span.end }
 
 -- the span is a part of the source
 abbrev pub IsWithin : Text → Span → Type 0

@@ -2,7 +2,8 @@
 use Rattle.std.specs.Prelude.{◌<◌, ◌^◌, All, map, length}
 use Rattle.tptp_lexer.specs.declared.token_list.Tokens.TheInside.{Inside}
 use Rattle.tptp_lexer.specs.Spans.{token_of, IsWithin}
-use Rattle.tptp_lexer.specs.Tokens.{Lexed, AreTokens}
+use Rattle.tptp_lexer.specs.Tokens.{AreTokens}
+use Rattle.tptp_lexer.specs.Columns.{Lexed}
 
 -- the source with the tokens of all its spans
 abbrev pub lexed_of : Inside → Lexed

@@ -1,33 +1,16 @@
--- The tokens of a text: the longest at each place, with only blanks and comments between them.
-use Rattle.std.specs.Prelude.{◌≡◌, ℕ, ◌+◌, ◌≤◌, ◌==◌, Bool, true, false, not, ◌&&◌, ◌||◌, if◌then◌else◌, List, [], ◌∷◌, ◌++◌, length, map, slice_range, Some, None, ◌⊎◌}
+-- The tokens of a text: the longest at each offset, with only blanks and comments between them.
+use Rattle.std.specs.Prelude.{◌≡◌, ℕ, ◌+◌, ◌==◌, Bool, true, not, ◌&&◌, ◌||◌, if◌then◌else◌, List, [], ◌∷◌, ◌++◌, length, Some, None, ◌⊎◌}
 use Rattle.std.specs.List.{list_all}
 use Rattle.text_core.specs.Names.{Text}
 use Rattle.tptp_lexer.specs.declared.kind.Kind.{Kind}
-use Rattle.tptp_lexer.specs.declared.kind.Kind.TheVariants.{Lower, Upper, Quoted, Integer}
+use Rattle.tptp_lexer.specs.declared.kind.Kind.TheVariants.{Quoted}
 use Rattle.tptp_lexer.specs.Kinds.{kind_of, inside, begins_with}
 
--- a token: its kind, the place of its first byte, and its bytes
+-- a token: its kind, the offset of its first byte, and its bytes
 pub record Token : Type 0 where
   pub kind : Kind
   pub start : ℕ
   pub text : Text
-
--- the place behind a token's last byte
-abbrev pub end_of : Token → ℕ
-end_of t = t.start + length t.text
-
--- the kinds, the starts, the ends and the texts of tokens, in order
-abbrev pub kinds_of : List Token → List Kind
-kinds_of ts = map (λ (t : Token). t.kind) ts
-
-abbrev pub starts_of : List Token → List ℕ
-starts_of ts = map (λ (t : Token). t.start) ts
-
-abbrev pub ends_of : List Token → List ℕ
-ends_of ts = map end_of ts
-
-abbrev pub texts_of : List Token → List Text
-texts_of ts = map (λ (t : Token). t.text) ts
 
 -- space, tab, line feed and carriage return
 abbrev pub is_blank : ℕ → Bool
@@ -42,18 +25,20 @@ abbrev pub is_end_of_line : Text → Bool
 is_end_of_line [] = true
 is_end_of_line (b ∷ bs) = b == 10
 
--- `*/` (42, 47) stands nowhere in the bytes
+-- `*/` (42, 47) is nowhere in the bytes
 abbrev pub is_unclosed : Text → Bool
 is_unclosed [] = true
 is_unclosed (b ∷ bs) = not (b == 42 && begins_with 47 bs) && is_unclosed bs
 
--- `%` (37) and what stands up to the end of the line, where the rest begins
+-- `%` (37) and what follows up to the end of the line, where the rest begins
 abbrev pub IsLineComment : Text → Text → Type 0
-IsLineComment text rest = (body : Text) × (text ≡ 37 ∷ body) × (is_in_line body ≡ true) × (is_end_of_line rest ≡ true)
+IsLineComment text rest =
+    (body : Text) × (text ≡ 37 ∷ body) × (is_in_line body ≡ true) × (is_end_of_line rest ≡ true)
 
--- `/*` and what stands up to the first `*/` that stands wholly after it: `/*`, bytes in which none begins, and `*/`
+-- `/*`, bytes in which no `*/` begins, and `*/`, which is the first one wholly behind the `/*`
 abbrev pub IsBlockComment : Text → Type 0
-IsBlockComment text = (body : Text) × (text ≡ 47 ∷ 42 ∷ body ++ 42 ∷ 47 ∷ []) × (is_unclosed (body ++ 42 ∷ []) ≡ true)
+IsBlockComment text =
+    (body : Text) × (text ≡ 47 ∷ 42 ∷ body ++ 42 ∷ 47 ∷ []) × (is_unclosed (body ++ 42 ∷ []) ≡ true)
 
 -- the text is a whole comment in front of the rest
 abbrev pub IsComment : Text → Text → Type 0
@@ -62,14 +47,21 @@ IsComment text rest = IsLineComment text rest ⊎ IsBlockComment text
 -- the text is a token of this kind in front of the rest, and with more of the rest it would be none
 pub record IsLongest (kind : Kind) (text rest : Text) : Type 0 where
   pub token : kind_of text ≡ Some kind
-  pub longest : (b : ℕ) (more after : Text) → rest ≡ b ∷ more ++ after → kind_of (text ++ b ∷ more) ≡ None
+  pub longest : (b : ℕ) (more after : Text) → rest ≡ b ∷ more ++ after
+      → kind_of (text ++ b ∷ more) ≡ None
 
--- From a place on the bytes are blanks, comments and these tokens, up to what is left, of which `left` is true.
+-- From an offset on the bytes are blanks, comments and these tokens, up to what is left, of which
+-- `left` is true.
 pub data Reads (left : ℕ → Text → Type 0) : ℕ → Text → List Token → Type 0 where
   stop : {at : ℕ} {bytes : Text} → left at bytes → Reads left at bytes []
-  blank : {at b : ℕ} {rest : Text} {ts : List Token} → is_blank b ≡ true → Reads left (at + 1) rest ts → Reads left at (b ∷ rest) ts
-  comment : {at : ℕ} {bytes : Text} {ts : List Token} (text rest : Text) → bytes ≡ text ++ rest → IsComment text rest → Reads left (at + length text) rest ts → Reads left at bytes ts
-  token : {at : ℕ} {bytes : Text} {ts : List Token} (kind : Kind) (text rest : Text) → bytes ≡ text ++ rest → IsLongest kind text rest → Reads left (at + length text) rest ts → Reads left at bytes (record { kind = kind; start = at; text = text } ∷ ts)
+  blank : {at b : ℕ} {rest : Text} {ts : List Token} → is_blank b ≡ true
+      → Reads left (at + 1) rest ts → Reads left at (b ∷ rest) ts
+  comment : {at : ℕ} {bytes : Text} {ts : List Token} (text rest : Text)
+      → bytes ≡ text ++ rest → IsComment text rest → Reads left (at + length text) rest ts
+      → Reads left at bytes ts
+  token : {at : ℕ} {bytes : Text} {ts : List Token} (kind : Kind) (text rest : Text)
+      → bytes ≡ text ++ rest → IsLongest kind text rest → Reads left (at + length text) rest ts
+      → Reads left at bytes (record { kind = kind; start = at; text = text } ∷ ts)
 
 -- nothing is left
 abbrev pub IsEnd : ℕ → Text → Type 0
@@ -79,38 +71,17 @@ IsEnd at bytes = bytes ≡ []
 abbrev pub AreTokens : Text → List Token → Type 0
 AreTokens bytes ts = Reads IsEnd 0 bytes ts
 
--- from a place on each token begins where the one before it ends or behind that, and its text is that part of the bytes
-abbrev pub AreInOrder : ℕ → Text → List Token → Type 0
-AreInOrder from bytes [] = Unit {0}
-AreInOrder from bytes (t ∷ ts) = (from ≤ t.start) × (t.text ≡ slice_range bytes t.start (end_of t)) × AreInOrder (end_of t) bytes ts
-
 -- the bytes between quotes, with the backslash (92) of each escape taken out
 abbrev pub unescaped : Text → Text
 unescaped [] = []
 unescaped (b ∷ []) = b ∷ []
 unescaped (b ∷ c ∷ cs) = if b == 92 then c ∷ unescaped cs else b ∷ unescaped (c ∷ cs)
 
--- tokens of these kinds name something
-abbrev pub is_name : Kind → Bool
-is_name Lower = true
-is_name Upper = true
-is_name Quoted = true
-is_name Integer = true
-is_name _ = false
-
--- what a text of a kind names: its bytes, or for a quoted word those between the quotes, without escapes
+-- what a text of a kind names: its bytes, or those between the quotes of a quoted word, unescaped
 abbrev pub named : Kind → Text → Text
 named Quoted text = unescaped (inside text)
 named _ text = text
 
+-- what a token names
 abbrev pub name_of : Token → Text
 name_of t = named t.kind t.text
-
--- the names of tokens, in order
-abbrev pub names_of : List Token → List Text
-names_of ts = map name_of ts
-
--- a source and its tokens
-pub record Lexed : Type 0 where
-  pub source : Text
-  pub tokens : List Token

@@ -29,7 +29,7 @@ pub(crate) fn digits_len(bytes: &[u8]) -> usize
     bytes.iter().take_while(|byte| is_digit(**byte)).count()
 }
 
-/// How many bytes stand before the end of the line.
+/// How many bytes are before the end of the line.
 pub(crate) fn line_len(bytes: &[u8]) -> usize
     ensures value { result ≡ prefix_len is_not_feed bytes.now }
     ensures within { result ≤ length bytes.now }

@@ -8,7 +8,7 @@ fn is_close(first: u8, second: u8) -> bool
     first == b'*' && second == b'/'
 }
 
-/// How many bytes stand before the first `*/`; `None` where there is none.
+/// The offset of the first `*/`; `None` where there is none.
 pub(crate) fn block_end(bytes: &[u8]) -> Option<usize>
     ensures value { result ≡ scanning.block_end bytes.now }
     ensures within { IfSome result (λ len. len + 2 ≤ length bytes.now) }

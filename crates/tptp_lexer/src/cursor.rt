@@ -5,11 +5,11 @@ use crate::token::Token;
 use crate::token_list::Tokens;
 use std::marker::Model;
 
-/// A place among the tokens of a source. Contracts see the list of the tokens from there on.
+/// The tokens of a source from a number on. Contracts see the list of these.
 #[derive(Debug, Drop)]
 pub struct Cursor<'t, 'a> {
     tokens: &'t Tokens<'a>,
-    place: usize,
+    number: usize,
 }
 
 impl<'t, 'a> Model for Cursor<'t, 'a> {
@@ -18,9 +18,9 @@ impl<'t, 'a> Model for Cursor<'t, 'a> {
 
     ghost Value = { List Token };
 
-    ghost view = { λ it. drop it.place it.tokens.now.tokens };
+    ghost view = { λ it. drop it.number it.tokens.now.tokens };
 
-    ghost invariant = { λ it. it.place ≤ length it.tokens.now.tokens };
+    ghost invariant = { λ it. it.number ≤ length it.tokens.now.tokens };
 }
 
 impl<'a> Tokens<'a> {
@@ -30,7 +30,7 @@ impl<'a> Tokens<'a> {
     {
         Cursor {
             tokens: self,
-            place: 0,
+            number: 0,
         }
     }
 }
@@ -40,18 +40,18 @@ impl<'t, 'a> Cursor<'t, 'a> {
     pub fn len(&self) -> usize
         ensures { result ≡ length self.now }
     {
-        self.tokens.len() - self.place
+        self.tokens.len() - self.number
     }
 
-    /// The token that stands here, and the place behind it; `None` behind the last.
+    /// The first of the tokens and a cursor to those behind it; `None` behind the last.
     pub fn next(&self) -> Option<(Token<'a>, Cursor<'t, 'a>)>
         ensures { result ≡ first_of self.now }
     {
-        if self.place < self.tokens.len() {
-            let token = self.tokens.token(self.place);
+        if self.number < self.tokens.len() {
+            let token = self.tokens.token(self.number);
             let behind = Cursor {
                 tokens: self.tokens,
-                place: self.place + 1,
+                number: self.number + 1,
             };
             Some((token, behind))
         } else {

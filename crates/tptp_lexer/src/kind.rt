@@ -1,4 +1,4 @@
-/// The kinds of tokens, after the TPTP syntax. Each mark is a kind of its own.
+/// The kinds of tokens, after the TPTP syntax. Each sign, as `(`, is a kind of its own.
 #[derive(Clone, Copy, Debug, PartialEq, Eq)]
 pub enum Kind {
     /// A word that begins with `a` to `z`, as `man`.
@@ -9,7 +9,7 @@ pub enum Kind {
     Quoted,
     /// A text in double quotes, as `"a note"`.
     Distinct,
-    /// A decimal number, with or without a sign, as `-12`.
+    /// A decimal number, with or without a plus or minus before it, as `-12`.
     Integer,
     /// A word behind a dollar, as `$true`.
     Dollar,

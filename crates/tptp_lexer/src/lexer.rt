@@ -8,12 +8,12 @@ ghost use Rattle.tptp_lexer.specs.Refused.{LexFault, IsExplained, IsOrMemory};
 use crate::piece::{Piece, piece_at};
 use crate::refusal::LexRefusal;
 use crate::token_list::{Span, Tokens};
-use text_core::List;
 use std::alloc::Global;
+use text_core::List;
 
-/// The tokens of a source of fewer than 2 ^ 32 bytes, after the TPTP syntax: the longest token at each place, with
-/// only blanks and comments between them. Where the source has none, the refusal tells the first refused place, and
-/// `Memory` is want of memory.
+/// The tokens of a source of fewer than 2 ^ 32 bytes, after the TPTP syntax: the longest token at
+/// each offset, with only blanks and comments between them. Where the source has none, the refusal
+/// tells the first refused offset, and `Memory` is want of memory.
 pub fn tokens<'a>(alloc: Global, source: &'a [u8]) -> Result<Tokens<'a>, LexRefusal>
     requires { length source.now < 2 ^ 32 }
     ensures source { IfOk result (λ lexed. lexed.source ≡ source.now) }
@@ -22,7 +22,7 @@ pub fn tokens<'a>(alloc: Global, source: &'a [u8]) -> Result<Tokens<'a>, LexRefu
     // Where the source has tokens, the answer is those, unless memory runs out.
     ensures found { (ts : List Token) → AreTokens source.now ts
         → MatchResult result (λ lexed. lexed.tokens ≡ ts) (λ refusal. refusal ≡ refusals.Memory) }
-    // Where the source has a first refused place, the answer is that one, unless memory runs out.
+    // Where the source has a first refused offset, the answer is that one, unless memory runs out.
     ensures told { (fault : Refusal) → LexFault source.now fault
         → MatchResult result (λ lexed. ⊥) (λ refusal. IsOrMemory fault refusal) }
 {

@@ -1,26 +1,27 @@
-//! The tokens of a text: those of the TPTP's first-order form, which every text that Hogbygone reads is made of.
+//! The tokens of a text: those of the TPTP's first-order form, which every text that Hogbygone
+//! reads is made of.
 #![tactic(auto)]
 
 mod byte;
 mod comment;
 mod cursor;
+mod integer;
 mod kind;
-mod laws;
+mod law;
 mod lexer;
-mod mark;
 mod name;
 mod piece;
 mod quote;
 mod refusal;
-#[cfg(test)]
-mod tests;
+mod sign;
 mod token;
 mod token_list;
 
 pub use cursor::Cursor;
+pub use integer::is_integer;
 pub use kind::Kind;
-pub use laws::{
-    never_tokens_and_refusal, one_first_refused_place, one_list_of_tokens, tokens_in_order,
+pub use law::{
+    never_tokens_and_refusal, one_first_refusal, one_list_of_tokens, tokens_in_order,
     tokens_or_refusal,
 };
 pub use lexer::tokens;

@@ -2,16 +2,17 @@ ghost use Rattle.std.specs.Prelude.{◌≡◌, ◌≢◌, ◌<◌, [], true, len
 ghost use Rattle.tptp_lexer.specs.Kinds.{is_body, kind_of};
 ghost use Rattle.tptp_lexer.specs.Scanning.{shown_at};
 ghost use Rattle.tptp_lexer.specs.Tokens as names;
+ghost use Rattle.tptp_lexer.specs.Columns as columns;
 
 use crate::kind::Kind;
-use text_core::{Bytes, Memory, Name};
 use std::alloc::Global;
+use text_core::{Bytes, Memory, Name};
 
-/// The name that a token of these bytes is, where it is a word, a quoted word or an integer. `Memory` is want of
-/// memory.
+/// The name that a token of these bytes is, where it is a word, a quoted word or an integer.
+/// `Memory` is want of memory.
 pub(crate) fn name_of(alloc: Global, kind: Kind, text: &[u8]) -> Result<Name, Memory>
     requires token { kind_of text.now ≡ Some kind }
-    requires named { IsTrue (names.is_name kind) }
+    requires named { IsTrue (columns.is_name kind) }
     ensures { IfOk result (λ name. name ≡ names.named kind text.now) }
 {
     match kind {
@@ -20,7 +21,7 @@ pub(crate) fn name_of(alloc: Global, kind: Kind, text: &[u8]) -> Result<Name, Me
     }
 }
 
-/// The name that stands between single quotes. `Memory` is want of memory.
+/// The name between single quotes. `Memory` is want of memory.
 fn unescaped_name(alloc: Global, body: &[u8]) -> Result<Name, Memory>
     requires some { body.now ≢ [] }
     requires body { is_body 39 body.now ≡ true }
@@ -48,7 +49,8 @@ fn unescaped(alloc: Global, body: &[u8]) -> Result<Bytes, Memory>
     Ok(bytes)
 }
 
-/// The place of the byte that the byte at a place stands for: that behind it for a backslash, else its own.
+/// The offset of the byte that the byte at an offset stands for: that behind it for a backslash,
+/// else its own.
 fn shown_at(body: &[u8], at: usize) -> usize
     requires { at < length body.now }
     ensures value { result ≡ shown_at body.now at }

@@ -4,11 +4,11 @@ ghost use Rattle.tptp_lexer.specs.Scanning as scanning;
 use crate::byte::{digits_len, is_blank, line_len, word_len};
 use crate::comment::block_end;
 use crate::kind::Kind;
-use crate::mark::mark_from;
 use crate::quote::{QuoteEnd, quote_end};
+use crate::sign::sign_from;
 use text_core::{is_digit, is_lower, is_upper};
 
-/// What stands at the front of some bytes.
+/// What is at the front of some bytes.
 #[derive(Clone, Copy, Debug)]
 pub(crate) enum Piece {
     /// Nothing: there are no bytes.
@@ -17,7 +17,8 @@ pub(crate) enum Piece {
     Gap(usize),
     /// The longest token, of this kind and so many bytes.
     Found(Kind, usize),
-    /// A byte so many bytes further on that begins no token, blank or comment, or may not stand in a quote.
+    /// A byte so many bytes further on that begins no token, blank or comment, or may not be in a
+    /// quote.
     BadByte(usize),
     /// A quote that is still open at the end.
     OpenQuote,
@@ -27,7 +28,7 @@ pub(crate) enum Piece {
     EmptyQuote,
 }
 
-/// What stands at the front of the bytes.
+/// What is at the front of the bytes.
 pub(crate) fn piece_at(bytes: &[u8]) -> Piece
     ensures { result ≡ scanning.piece_at bytes.now }
 {
@@ -37,7 +38,7 @@ pub(crate) fn piece_at(bytes: &[u8]) -> Piece
     }
 }
 
-/// What stands at the front of the bytes that begin with a byte.
+/// What is at the front of the bytes that begin with a byte.
 #[tactic(auto, unfolding(crate::specs::Scanning::piece_from))]
 fn piece_from(byte: u8, rest: &[u8]) -> Piece
     ensures { result ≡ scanning.piece_from byte rest.now }
@@ -51,14 +52,14 @@ fn piece_from(byte: u8, rest: &[u8]) -> Piece
     } else if is_digit(byte) {
         Piece::Found(Kind::Integer, natural_len(byte, rest))
     } else {
-        sign_from(byte, rest)
+        other_from(byte, rest)
     }
 }
 
 /// The same for a byte that is no letter, digit or blank.
-#[tactic(auto, unfolding(crate::specs::Scanning::sign_from))]
-fn sign_from(byte: u8, rest: &[u8]) -> Piece
-    ensures { result ≡ scanning.sign_from byte rest.now }
+#[tactic(auto, unfolding(crate::specs::Scanning::other_from))]
+fn other_from(byte: u8, rest: &[u8]) -> Piece
+    ensures { result ≡ scanning.other_from byte rest.now }
 {
     if byte == b'\'' {
         quoted_from(rest)
@@ -73,7 +74,7 @@ fn sign_from(byte: u8, rest: &[u8]) -> Piece
     } else if byte == b'+' || byte == b'-' {
         signed_from(rest)
     } else {
-        mark_from(byte, rest)
+        sign_from(byte, rest)
     }
 }
 

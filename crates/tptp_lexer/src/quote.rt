@@ -9,13 +9,13 @@ use text_core::is_printable;
 pub(crate) enum QuoteEnd {
     /// By the same quote, behind so many bytes.
     Closed(usize),
-    /// By a byte that may not stand there, behind so many bytes.
+    /// By a byte that may not be there, behind so many bytes.
     Stray(usize),
     /// With the text: the quote is still open.
     Open,
 }
 
-/// Whether a byte may stand behind a backslash between such quotes.
+/// Whether a byte may follow a backslash between such quotes.
 fn is_escapable(quote: u8, byte: u8) -> bool
     ensures { result ≡ kinds.is_escapable quote byte }
 {

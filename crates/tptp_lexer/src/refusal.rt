@@ -1,20 +1,21 @@
 use text_core::Memory;
 use thiserror::Error;
 
-/// Why a text has no tokens, with the first refused place, counted in bytes from 0.
+/// Why a text has no tokens, with the first refused offset, counted in bytes from 0.
 #[derive(Debug, Drop, Error)]
 pub enum LexRefusal {
-    /// At this byte begins no token, blank or comment; or, within a quote, this byte may not stand there, or is
-    /// the backslash of a wrong escape.
+    /// At this offset begins no token, blank or comment; or, within a quote, the byte at this
+    /// offset may not be there, or is the backslash of a wrong escape.
     #[error("BadByte")]
     BadByte(u32),
-    /// The quote that begins here, single or double, is still open at the end of the text.
+    /// The quote that begins at this offset, single or double, is still open at the end of the
+    /// text.
     #[error("OpenQuote")]
     OpenQuote(u32),
-    /// No `*/` closes the comment whose `/*` stands here.
+    /// No `*/` closes the comment whose `/*` begins at this offset.
     #[error("OpenComment")]
     OpenComment(u32),
-    /// Here stand two single quotes with nothing between them.
+    /// At this offset begin two single quotes with nothing between them.
     #[error("EmptyQuote")]
     EmptyQuote(u32),
     /// Memory ran out.

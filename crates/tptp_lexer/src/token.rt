@@ -1,15 +1,16 @@
 ghost use Rattle.std.specs.Prelude.{◌≡◌, Some, IfOk, IsTrue};
 ghost use Rattle.tptp_lexer.specs.Kinds.{kind_of};
 ghost use Rattle.tptp_lexer.specs.Tokens as names;
+ghost use Rattle.tptp_lexer.specs.Columns as columns;
 
 use crate::kind::Kind;
 use crate::name::name_of;
-use text_core::{Memory, Name};
 use std::alloc::Global;
 use std::marker::Model;
+use text_core::{Memory, Name};
 
-/// A token: its kind, the place in its source of its first byte, counted from 0, and its bytes as they stand there. Contracts see
-/// these three.
+/// A token: its kind, the offset of its first byte in its source, counted from 0, and its bytes as
+/// they are there. Contracts see these three.
 #[derive(Debug, Drop)]
 pub struct Token<'a> {
     kind: Kind,
@@ -45,14 +46,14 @@ impl<'a> Token<'a> {
         self.kind
     }
 
-    /// The place in the source of the first byte.
+    /// The offset in the source of the first byte.
     pub fn start(&self) -> u32
         ensures { result ≡ self.now.start }
     {
         self.start
     }
 
-    /// The bytes, as they stand in the source.
+    /// The bytes, as they are in the source.
     pub fn text(&self) -> &'a [u8]
         ensures value { result.now ≡ self.now.text }
         ensures token { kind_of self.now.text ≡ Some self.now.kind }
@@ -60,10 +61,11 @@ impl<'a> Token<'a> {
         self.text
     }
 
-    /// The name that a word in lower or upper case, a quoted word or an integer is: its bytes, and those between
-    /// the quotes of a quoted word, where a backslash stands for the byte behind it. `Memory` is want of memory.
+    /// The name that a word in lower or upper case, a quoted word or an integer is: its bytes, and
+    /// those between the quotes of a quoted word, where a backslash stands for the byte behind it.
+    /// `Memory` is want of memory.
     pub fn name(&self, alloc: Global) -> Result<Name, Memory>
-        requires { IsTrue (names.is_name self.now.kind) }
+        requires { IsTrue (columns.is_name self.now.kind) }
         ensures { IfOk result (λ name. name ≡ names.name_of self.now) }
     {
         name_of(alloc, self.kind, self.text)

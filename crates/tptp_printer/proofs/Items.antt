@@ -3,7 +3,7 @@ use Rattle.std.proofs.Common.{◌≡◌, ℕ, ◌≤◌, true, List, length, dro
 use Rattle.std.specs.List.{AllByRecursion}
 use Rattle.std.proofs.lemmas.List.{append-nil, drop_all}
 use Rattle.text_core.specs.Names.{Text, IsNameText, is_lower, is_word_from}
-use Rattle.logic_core.specs.Problems.{FofMayStand, ItemMayStand}
+use Rattle.logic_core.specs.Allowed.{FofIsAllowed, ItemIsAllowed}
 use Rattle.logic_core.specs.declared.problem.Role.{Role}
 use Rattle.logic_core.specs.declared.problem.Role.TheVariants as role
 use Rattle.logic_core.specs.declared.problem.Fof.{Fof}
@@ -11,13 +11,12 @@ use Rattle.logic_core.specs.declared.problem.Item.{Item}
 use Rattle.logic_core.specs.declared.problem.Item.TheVariants.{Fof as ItemFof, Include}
 use Rattle.tptp_lexer.specs.declared.kind.Kind.TheVariants as kind
 use Rattle.tptp_lexer.specs.Tokens.{Token, AreTokens, stop}
-use Rattle.tptp_grammar.specs.Marks.{role_text}
-use Rattle.tptp_grammar.specs.Spells.{IsNaming, SpellsName, SpellsListed, SpellsFormula, no_annotation, SpellsFof, SpellsSelection, SpellsInclude, SpellsItem, SpellsItems}
-use Rattle.tptp_grammar.specs.Texts.{ItemIsClosed, AreItemsOf}
+use Rattle.tptp_grammar.specs.Roles.{role_text}
+use Rattle.tptp_grammar.specs.Spells.{IsNaming, SpellsName, SpellsListed, SpellsFormula, no_annotation, SpellsFof, SpellsSelection, SpellsInclude, SpellsItem, SpellsItems, ItemIsClosed, AreItemsOf}
 use Rattle.tptp_printer.specs.Canonical.{name_text, selection_text, item_text, items_text, problem_text}
 use Rattle.tptp_printer.specs.Named.{SelectionIsNamed, ItemIsNamed}
 use Rattle.tptp_printer.proofs.Pieces.{Any, NoWord, Gives, Both, IsOne, IsToken, nothing, seen, followed}
-use Rattle.tptp_printer.proofs.Marks.{open_parenthesis, close_parenthesis, open_bracket, close_bracket, comma, dot, gap_after}
+use Rattle.tptp_printer.proofs.Signs.{open_parenthesis, close_parenthesis, open_bracket, close_bracket, comma, dot, gap_after}
 use Rattle.tptp_printer.proofs.Words.{lower_word, naming, quoted}
 use Rattle.tptp_printer.proofs.Listed.{listed, between}
 use Rattle.tptp_printer.proofs.Formulas.{whole}
@@ -30,6 +29,7 @@ closing = followed close_parenthesis dot (λ rest may. tt)
 opening : (x : Text) → is_word_from is_lower x ≡ true → Gives Any (x ++ codes "(") (Both (IsToken kind.Lower x) (IsOne kind.OpenParenthesis))
 opening x h = followed (lower_word x h) open_parenthesis (λ rest may. refl)
 
+-- the word of a role is a word in lower case
 role_word : (r : Role) → is_word_from is_lower (role_text r) ≡ true
 role_word role.Axiom = refl
 role_word role.Hypothesis = refl
@@ -49,6 +49,7 @@ one_behind ts us vs known t e f g = e ∙ ap (λ (xs : List Token). xs ++ vs) f 
 abbrev FofTokens : Fof → List Token → Type 0
 FofTokens fof = Both (Both (Both (Both (Both (Both (Both (IsToken kind.Lower (codes "fof")) (IsOne kind.OpenParenthesis)) (SpellsName IsNaming fof.name)) (IsOne kind.Comma)) (IsToken kind.Lower (role_text fof.role))) (IsOne kind.Comma)) (SpellsFormula 0 fof.formula)) (Both (IsOne kind.CloseParenthesis) (IsOne kind.Dot))
 
+-- these tokens spell a formula with its name and role
 fof_tokens : (fof : Fof) (ts : List Token) → FofTokens fof ts → SpellsFof fof ts
 fof_tokens fof ts s =
     let formula = s.2 in
@@ -92,7 +93,8 @@ fof_tokens fof ts s =
       split = s.4 ∙ ap (λ (xs : List Token). xs ++ s.1) (formula.4 ∙ ap (λ (xs : List Token). xs ++ formula.1) six) ∙ ap (λ (xs : List Token). word.0 ∷ first.0 ∷ named.0 ∷ (comma.3).0 ∷ told.0 ∷ (between.3).0 ∷ (formula.1 ++ xs)) last;
     }
 
-fof_piece : (fof : Fof) → FofMayStand fof → ItemIsNamed (ItemFof fof) → Gives Any (item_text (ItemFof fof)) (SpellsFof fof)
+-- a formula with its name and role
+fof_piece : (fof : Fof) → FofIsAllowed fof → ItemIsNamed (ItemFof fof) → Gives Any (item_text (ItemFof fof)) (SpellsFof fof)
 fof_piece fof m n =
     let head = followed (opening (codes "fof") refl) (naming fof.name n.0) (λ rest may. tt) in
     let role = followed (followed head comma (λ rest may. refl)) (lower_word (role_text fof.role) (role_word fof.role)) (λ rest may. tt) in
@@ -104,6 +106,7 @@ each_name : (names : List Text) → AllByRecursion IsNameText names → AllByRec
 each_name [] n = tt
 each_name (name ∷ names) n = (naming name n.0, each_name names n.1)
 
+-- these tokens spell a selection
 selection_tokens : (names : List Text) (ts : List Token) → Both (Both (Both (IsOne kind.Comma) (IsOne kind.OpenBracket)) (SpellsListed (SpellsName IsNaming) names)) (IsOne kind.CloseBracket) ts → SpellsSelection (Some names) ts
 selection_tokens names ts s =
     let inner = s.2 in
@@ -116,7 +119,8 @@ selection_tokens names ts s =
       s.4 ∙ ap (λ (xs : List Token). xs ++ s.1) (inner.4 ∙ ap (λ (xs : List Token). xs ++ inner.1) (head.4 ∙ ap (λ (xs : List Token). xs ++ head.1) comma.2)),
     )
 
-selection_piece : (file : Text) (only : Option (List Text)) → ItemMayStand (Include file only) → SelectionIsNamed only → Gives Any (selection_text only) (SpellsSelection only)
+-- what follows an inclusion's file
+selection_piece : (file : Text) (only : Option (List Text)) → ItemIsAllowed (Include file only) → SelectionIsNamed only → Gives Any (selection_text only) (SpellsSelection only)
 selection_piece file None m n = nothing
 selection_piece file (Some []) m n = absurd m
 selection_piece file (Some (name ∷ names)) m n =
@@ -127,6 +131,7 @@ selection_piece file (Some (name ∷ names)) m n =
 abbrev IncludeTokens : Text → Option (List Text) → List Token → Type 0
 IncludeTokens file only = Both (Both (Both (Both (IsToken kind.Lower (codes "include")) (IsOne kind.OpenParenthesis)) (SpellsName (λ t. t.kind ≡ kind.Quoted) file)) (SpellsSelection only)) (Both (IsOne kind.CloseParenthesis) (IsOne kind.Dot))
 
+-- these tokens spell an inclusion
 include_tokens : (file : Text) (only : Option (List Text)) (ts : List Token) → IncludeTokens file only ts → SpellsInclude file only ts
 include_tokens file only ts s =
     let selection = s.2 in
@@ -155,26 +160,30 @@ include_tokens file only ts s =
       split = s.4 ∙ ap (λ (xs : List Token). xs ++ s.1) (selection.4 ∙ ap (λ (xs : List Token). xs ++ selection.1) three) ∙ ap (λ (xs : List Token). word.0 ∷ first.0 ∷ named.0 ∷ (selection.1 ++ xs)) last;
     }
 
-item_piece : (item : Item) → ItemMayStand item → ItemIsNamed item → Gives Any (item_text item) (SpellsItem item)
+-- an item
+item_piece : (item : Item) → ItemIsAllowed item → ItemIsNamed item → Gives Any (item_text item) (SpellsItem item)
 item_piece (ItemFof fof) m n = fof_piece fof m n
 item_piece (Include file only) m n =
     let head = followed (opening (codes "include") refl) (quoted file n.0) (λ rest may. tt) in
     gap_after 10 refl (λ rest. tt) (seen (include_tokens file only) (followed (followed head (selection_piece file only m n.1) (λ rest may. tt)) closing (λ rest may. tt)))
 
-items_piece : (items : List Item) → AllByRecursion ItemMayStand items → AllByRecursion ItemIsNamed items → Gives Any (items_text items) (SpellsItems items)
+-- items one after another
+items_piece : (items : List Item) → AllByRecursion ItemIsAllowed items → AllByRecursion ItemIsNamed items → Gives Any (items_text items) (SpellsItems items)
 items_piece [] m n = nothing
 items_piece (item ∷ items) m n = followed (item_piece item m.0 n.0) (items_piece items m.1 n.1) (λ rest may. tt)
 
-is_closed : (item : Item) → ItemMayStand item → ItemIsClosed item
+-- an item that may be in a problem is closed
+is_closed : (item : Item) → ItemIsAllowed item → ItemIsClosed item
 is_closed (ItemFof fof) m = m.closed
 is_closed (Include file only) m = tt
 
-are_closed : (items : List Item) → AllByRecursion ItemMayStand items → AllByRecursion ItemIsClosed items
+-- so are items
+are_closed : (items : List Item) → AllByRecursion ItemIsAllowed items → AllByRecursion ItemIsClosed items
 are_closed [] m = tt
 are_closed (item ∷ items) m = (is_closed item m.0, are_closed items m.1)
 
 -- the text of items has tokens, which are a text of the same items
-read_back : (items : List Item) (bytes : Text) → bytes ≡ items_text items → AllByRecursion ItemMayStand items → AllByRecursion ItemIsNamed items → (ts : List Token) × AreTokens bytes ts × AreItemsOf ts items
+read_back : (items : List Item) (bytes : Text) → bytes ≡ items_text items → AllByRecursion ItemIsAllowed items → AllByRecursion ItemIsNamed items → (ts : List Token) × AreTokens bytes ts × AreItemsOf ts items
 read_back items bytes e m n =
     let g = (items_piece items m n).give 0 [] tt in (
       g.0,
@@ -182,20 +191,24 @@ read_back items bytes e m n =
       record { spelled = g.1; closed = are_closed items m },
     )
 
-each_fof : (fofs : List Fof) → AllByRecursion FofMayStand fofs → AllByRecursion ItemMayStand (map ItemFof fofs)
+-- formulas that may be in a problem, as items
+each_fof : (fofs : List Fof) → AllByRecursion FofIsAllowed fofs → AllByRecursion ItemIsAllowed (map ItemFof fofs)
 each_fof [] m = tt
 each_fof (fof ∷ fofs) m = (m.0, each_fof fofs m.1)
 
+-- formulas with names, as items
 named_fofs : (fofs : List Fof) → AllByRecursion (λ fof. ItemIsNamed (ItemFof fof)) fofs → AllByRecursion ItemIsNamed (map ItemFof fofs)
 named_fofs [] n = tt
 named_fofs (fof ∷ fofs) n = (n.0, named_fofs fofs n.1)
 
 -- the same for one item, and for the formulas of a problem
 
-pub item_back : (item : Item) (bytes : Text) → bytes ≡ item_text item → ItemMayStand item → ItemIsNamed item → (ts : List Token) × AreTokens bytes ts × AreItemsOf ts (item ∷ [])
+-- for one item
+pub item_back : (item : Item) (bytes : Text) → bytes ≡ item_text item → ItemIsAllowed item → ItemIsNamed item → (ts : List Token) × AreTokens bytes ts × AreItemsOf ts (item ∷ [])
 item_back item bytes e m n = read_back (item ∷ []) bytes (e ∙ sym (append-nil (item_text item))) (m, tt) (n, tt)
 
-pub problem_back : (fofs items : List Fof) (at : ℕ) (bytes : Text) → length items ≤ at → bytes ++ problem_text (drop at items) ≡ problem_text fofs → AllByRecursion FofMayStand fofs → (AllByRecursion (λ fof. ItemIsNamed (ItemFof fof)) (drop at items) → AllByRecursion (λ fof. ItemIsNamed (ItemFof fof)) fofs) → (ts : List Token) × AreTokens bytes ts × AreItemsOf ts (map ItemFof fofs)
+-- for the formulas of a problem
+pub problem_back : (fofs items : List Fof) (at : ℕ) (bytes : Text) → length items ≤ at → bytes ++ problem_text (drop at items) ≡ problem_text fofs → AllByRecursion FofIsAllowed fofs → (AllByRecursion (λ fof. ItemIsNamed (ItemFof fof)) (drop at items) → AllByRecursion (λ fof. ItemIsNamed (ItemFof fof)) fofs) → (ts : List Token) × AreTokens bytes ts × AreItemsOf ts (map ItemFof fofs)
 problem_back fofs items at bytes done e m n =
     let left : drop at items ≡ [] = drop_all at items done in
     read_back (map ItemFof fofs) bytes (sym (append-nil bytes) ∙ ap (λ rest. bytes ++ problem_text rest) (sym left) ∙ e) (each_fof fofs m) (named_fofs fofs (n (subst (AllByRecursion (λ fof. ItemIsNamed (ItemFof fof))) (sym left) tt)))

@@ -9,6 +9,7 @@ abbrev pub led : Text → Text → List Text → Text
 led before separator [] = []
 led before separator (x ∷ xs) = before ++ (x ++ led separator separator xs)
 
+-- joined texts are led by nothing
 pub joined_led : (separator : Text) (xs : List Text) → joined_texts separator xs ≡ led [] separator xs
 joined_led separator [] = refl
 joined_led separator (x ∷ []) = sym (append-nil x)

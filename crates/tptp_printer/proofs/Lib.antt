@@ -1,7 +1,7 @@
 pub mod Joined
 pub mod Opened
 pub mod Pieces
-pub mod Marks
+pub mod Signs
 pub mod Words
 pub mod Listed
 pub mod Shut

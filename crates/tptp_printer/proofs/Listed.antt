@@ -3,7 +3,7 @@ use Rattle.std.proofs.Common.{◌≡◌, List, [], ◌∷◌, ◌++◌, map, cod
 use Rattle.std.specs.List.{AllByRecursion}
 use Rattle.std.proofs.lemmas.List.{append-nil}
 use Rattle.text_core.specs.Names.{Text, is_upper_word}
-use Rattle.logic_core.specs.Problems.{TermIsBound, AreVariables}
+use Rattle.logic_core.specs.Allowed.{TermIsBound, AreVariables}
 use Rattle.logic_core.specs.declared.formula.Term.{Term}
 use Rattle.logic_core.specs.declared.formula.Term.TheVariants.{Variable, Constant}
 use Rattle.tptp_lexer.specs.declared.kind.Kind.{Kind}
@@ -13,7 +13,7 @@ use Rattle.tptp_grammar.specs.Spells.{SpellsVariable, SpellsTerm, none, more, Sp
 use Rattle.tptp_printer.specs.Canonical.{term_text, joined_texts, arguments_text, variables_text}
 use Rattle.tptp_printer.specs.Named.{TermIsNamed}
 use Rattle.tptp_printer.proofs.Pieces.{Any, NoWord, Gives, Both, IsOne, nothing, seen, before, followed}
-use Rattle.tptp_printer.proofs.Marks.{open_parenthesis, close_parenthesis, open_bracket, close_bracket, comma, colon}
+use Rattle.tptp_printer.proofs.Signs.{open_parenthesis, close_parenthesis, open_bracket, close_bracket, comma, colon}
 use Rattle.tptp_printer.proofs.Words.{word, variable}
 
 -- a value, a comma and further values
@@ -48,33 +48,39 @@ between open_kind close_kind spells xs us vs ws ts o l c e = record {
 
 -- terms and their lists
 
+-- a term
 pub term : (scope : List Text) (t : Term) → TermIsNamed t → TermIsBound scope t → Gives NoWord (term_text t) (SpellsTerm t)
 term scope (Variable x) n b = variable x b.1
 term scope (Constant c) n b = word c n
 
+-- each of some terms
 each_term : (scope : List Text) (ts : List Term) → AllByRecursion TermIsNamed ts → AllByRecursion (TermIsBound scope) ts → AllByRecursion (λ t. Gives NoWord (term_text t) (SpellsTerm t)) ts
 each_term scope [] n b = tt
 each_term scope (t ∷ ts) n b = (term scope t n.0 b.0, each_term scope ts n.1 b.1)
 
+-- the arguments of an atom
 pub arguments : (scope : List Text) (ts : List Term) → AllByRecursion TermIsNamed ts → AllByRecursion (TermIsBound scope) ts → Gives NoWord (arguments_text ts) (SpellsArguments ts)
 arguments scope [] n b = before (λ rest may. tt) nothing
 arguments scope (t ∷ ts) n b = seen
     (λ us s. let l = s.2 in between kind.OpenParenthesis kind.CloseParenthesis SpellsTerm (t ∷ ts) l.0 l.1 s.1 us l.2 l.3 s.3 (s.4 ∙ ap (λ (vs : List Token). vs ++ s.1) l.4))
     (before (λ rest may. tt) (followed (followed open_parenthesis (listed term_text SpellsTerm t ts (each_term scope (t ∷ ts) n b)) (λ rest may. tt)) close_parenthesis (λ rest may. refl)))
 
--- what stands behind a word does not go on with it
+-- what follows a word does not go on with it
 pub arguments_follow : (ts : List Term) (rest : Text) → NoWord rest → NoWord (arguments_text ts ++ rest)
 arguments_follow [] rest may = may
 arguments_follow (t ∷ ts) rest may = refl
 
+-- each of some variables
 each_variable : (xs : List Text) → AllByRecursion (λ x. IsTrue (is_upper_word x)) xs → AllByRecursion (λ x. Gives NoWord x (SpellsVariable x)) xs
 each_variable [] h = tt
 each_variable (x ∷ xs) h = (variable x h.0, each_variable xs h.1)
 
+-- a list of the same members
 same_map : (xs : List Text) → map (λ x. x) xs ≡ xs
 same_map [] = refl
 same_map (x ∷ xs) = ap (λ (ys : List Text). x ∷ ys) (same_map xs)
 
+-- variables with commas
 some_variables : (xs : List Text) → AreVariables xs → Gives NoWord (joined_texts (codes ",") xs) (SpellsListed SpellsVariable xs)
 some_variables [] h = absurd h.0
 some_variables (x ∷ xs) h = subst (λ ys. Gives NoWord (joined_texts (codes ",") ys) (SpellsListed SpellsVariable (x ∷ xs))) (same_map (x ∷ xs)) (listed (λ y. y) SpellsVariable x xs (each_variable (x ∷ xs) h.1))

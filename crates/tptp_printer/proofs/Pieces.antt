@@ -4,7 +4,7 @@ use Rattle.text_core.specs.Names.{Text, is_word}
 use Rattle.tptp_lexer.specs.declared.kind.Kind.{Kind}
 use Rattle.tptp_lexer.specs.Kinds.{begins_with}
 use Rattle.tptp_lexer.specs.Tokens.{Token, IsLongest, Reads, IsEnd, is_blank, blank, token}
-use Rattle.tptp_lexer.proofs.Runs.{stops}
+use Rattle.tptp_lexer.proofs.Laws.{stops}
 
 -- any rest may follow
 abbrev pub Any : Text → Type 0
@@ -34,12 +34,15 @@ IsOne kind ts = (t : Token) × (t.kind ≡ kind) × (ts ≡ t ∷ [])
 abbrev pub IsToken : Kind → Text → List Token → Type 0
 IsToken kind text ts = (t : Token) × (t.kind ≡ kind) × (t.text ≡ text) × (ts ≡ t ∷ [])
 
+-- no bytes give no tokens
 pub nothing : Gives Any [] (λ ts. ts ≡ [])
 nothing = record { give = λ at rest may. ([], refl, λ us r. subst (λ n. Reads IsEnd n rest us) (add-zero at) r) }
 
+-- a blank gives no token
 pub one_blank : (b : ℕ) → is_blank b ≡ true → Gives Any (b ∷ []) (λ ts. ts ≡ [])
 one_blank b is = record { give = λ at rest may. ([], refl, λ us r. blank is r) }
 
+-- the longest token gives itself
 pub one_token : {may : Text → Type 0} (kind : Kind) (text : Text) → ((rest : Text) → may rest → IsLongest kind text rest) → Gives may text (IsToken kind text)
 one_token kind text longest = record { give = λ at rest may. (record { kind = kind; start = at; text = text } ∷ [], (record { kind = kind; start = at; text = text }, refl, refl, refl), λ us r. token kind text rest refl (longest rest may) r) }
 

@@ -1,6 +1,6 @@
 -- A formula that definitions by cases take apart, as code builds it.
 use Rattle.std.proofs.Common.{◌≡◌, List, [], ◌∷◌, refl, ap, sym, ◌∙◌}
-use Rattle.logic_core.specs.Openings.{row_of, Not_opens, And_opens, Or_opens, Binary_opens, ForAll_opens, Exists_opens}
+use Rattle.logic_core.proofs.Laws.{row_of, Not_opens, And_opens, Or_opens, Binary_opens, ForAll_opens, Exists_opens}
 use Rattle.logic_core.specs.declared.formula.Formula.{Formula, True, False, Pred, Equal, Not, And, Or, Binary, ForAll, Exists, Not', And', Or', Binary', ForAll', Exists', Row_of-Formula, end_of-Formula, more_of-Formula}
 use Rattle.logic_core.specs.declared.formula.Formula.TheBlock.{shape-the_row-Formula-1}
 use Rattle.logic_core.specs.declared.formula.Formula.TheOpen as layer
@@ -11,6 +11,7 @@ abbrev pub members_of : {n : _} → Row_of-Formula n → List Formula
 members_of end_of-Formula = []
 members_of (more_of-Formula g rest) = g ∷ members_of rest
 
+-- the members of the row of a list
 members_row : (gs : List Formula) → members_of (row_of gs) ≡ gs
 unfolding row_of shape-the_row-Formula-1
 members_row [] = refl
@@ -42,5 +43,6 @@ stays (layer.Binary o g h) = ap rebuilt (views.rolls-Binary o g h ∙ Binary_ope
 stays (layer.ForAll xs g) = ap rebuilt (views.rolls-ForAll xs g ∙ ForAll_opens xs g) ∙ sym (views.rolls-ForAll xs g)
 stays (layer.Exists xs g) = ap rebuilt (views.rolls-Exists xs g ∙ Exists_opens xs g) ∙ sym (views.rolls-Exists xs g)
 
+-- each formula is built from its parts
 pub as_built : (f : Formula) → f ≡ rebuilt f
 as_built f = let e = views.roll-out-Formula f in sym e ∙ sym (stays (views.out-Formula f)) ∙ ap rebuilt e

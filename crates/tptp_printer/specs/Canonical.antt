@@ -1,4 +1,5 @@
--- The canonical text of a problem: one item a line, blanks and brackets in one way. Source: the TPTP syntax, FOF.
+-- The canonical text of a problem: one item a line, blanks and brackets in one way. Source: the
+-- TPTP syntax, FOF.
 use Rattle.std.specs.Prelude.{◌==◌, ◌||◌, List, [], ◌∷◌, ◌++◌, map, Option, Some, None, codes, if◌then◌else◌}
 use Rattle.text_core.specs.Names.{Text, is_lower, is_word_from}
 use Rattle.logic_core.specs.declared.formula.Term.{Term}
@@ -10,7 +11,7 @@ use Rattle.logic_core.specs.declared.problem.Fof.{Fof}
 use Rattle.logic_core.specs.declared.problem.Item.{Item}
 use Rattle.logic_core.specs.declared.problem.Item.TheVariants.{Fof as ItemFof, Include}
 use Rattle.tptp_lexer.specs.Kinds.{is_integer}
-use Rattle.tptp_grammar.specs.Marks.{role_text}
+use Rattle.tptp_grammar.specs.Roles.{role_text}
 
 -- the quote (39) and the backslash (92) behind a backslash, other bytes as they are
 abbrev pub escaped : Text → Text
@@ -29,6 +30,7 @@ word_text name = if is_word_from is_lower name then name else quoted_text name
 abbrev pub name_text : Text → Text
 name_text name = if is_word_from is_lower name || is_integer name then name else quoted_text name
 
+-- a term
 abbrev pub term_text : Term → Text
 term_text (Variable x) = x
 term_text (Constant c) = word_text c
@@ -42,8 +44,10 @@ joined_texts separator (x ∷ y ∷ ys) = x ++ separator ++ joined_texts separat
 -- the arguments of an atom in brackets; nothing where there are none
 abbrev pub arguments_text : List Term → Text
 arguments_text [] = []
-arguments_text (t ∷ ts) = codes "(" ++ joined_texts (codes ",") (map term_text (t ∷ ts)) ++ codes ")"
+arguments_text (t ∷ ts) =
+    codes "(" ++ joined_texts (codes ",") (map term_text (t ∷ ts)) ++ codes ")"
 
+-- the sign of a connective
 abbrev pub op_text : Op → Text
 op_text op.Implies = codes "=>"
 op_text op.Implied = codes "<="
@@ -52,7 +56,8 @@ op_text op.Xor = codes "<~>"
 op_text op.Nor = codes "~|"
 op_text op.Nand = codes "~&"
 
--- the text of a formula inside another one: in brackets where it is a chain or has a connective between two sides
+-- the text of a formula inside another one: in brackets where it is a chain or has a connective
+-- between two sides
 abbrev pub in_unit : Formula → Text → Text
 in_unit (And' n members) text = codes "(" ++ text ++ codes ")"
 in_unit (Or' n members) text = codes "(" ++ text ++ codes ")"
@@ -74,27 +79,33 @@ abbrev mutual
   formula_text (And' _ members) = chain_text (codes " & ") members
   formula_text (Or' _ members) = chain_text (codes " | ") members
   formula_text (Binary' o _ (more_of-Formula g _) _ (more_of-Formula h _)) =
-      in_unit g (formula_text g) ++ codes " " ++ op_text o ++ codes " " ++ in_unit h (formula_text h)
-  formula_text (ForAll' xs _ (more_of-Formula g _)) = codes "! " ++ variables_text xs ++ in_unit g (formula_text g)
-  formula_text (Exists' xs _ (more_of-Formula g _)) = codes "? " ++ variables_text xs ++ in_unit g (formula_text g)
+      in_unit g (formula_text g) ++ codes " " ++ op_text o ++ codes " " ++
+      in_unit h (formula_text h)
+  formula_text (ForAll' xs _ (more_of-Formula g _)) =
+      codes "! " ++ variables_text xs ++ in_unit g (formula_text g)
+  formula_text (Exists' xs _ (more_of-Formula g _)) =
+      codes "? " ++ variables_text xs ++ in_unit g (formula_text g)
 
+  -- the members of a chain with a separator between each two
   pub chain_text : Text → {n : _} → Row_of-Formula n → Text
   chain_text separator end_of-Formula = []
   chain_text separator (more_of-Formula g end_of-Formula) = in_unit g (formula_text g)
   chain_text separator (more_of-Formula g (more_of-Formula h rest)) =
       in_unit g (formula_text g) ++ separator ++ chain_text separator (more_of-Formula h rest)
 
--- what stands behind an inclusion's file
+-- what follows an inclusion's file
 abbrev pub selection_text : Option (List Text) → Text
 selection_text None = []
-selection_text (Some names) = codes ",[" ++ joined_texts (codes ",") (map name_text names) ++ codes "]"
+selection_text (Some names) =
+    codes ",[" ++ joined_texts (codes ",") (map name_text names) ++ codes "]"
 
 -- an item, with a line feed (10) at its end
 abbrev pub item_text : Item → Text
 item_text (ItemFof fof) =
-    codes "fof(" ++ name_text fof.name ++ codes "," ++ role_text fof.role ++ codes "," ++ formula_text fof.formula ++ codes ")." ++
-    (10 ∷ [])
-item_text (Include file only) = codes "include(" ++ quoted_text file ++ selection_text only ++ codes ")." ++ (10 ∷ [])
+    codes "fof(" ++ name_text fof.name ++ codes "," ++ role_text fof.role ++ codes "," ++
+    formula_text fof.formula ++ codes ")." ++ (10 ∷ [])
+item_text (Include file only) =
+    codes "include(" ++ quoted_text file ++ selection_text only ++ codes ")." ++ (10 ∷ [])
 
 -- items one after another
 abbrev pub items_text : List Item → Text

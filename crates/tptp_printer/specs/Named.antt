@@ -8,6 +8,7 @@ use Rattle.logic_core.specs.declared.formula.Formula.{Formula, True, False, Pred
 use Rattle.logic_core.specs.declared.problem.Item.{Item}
 use Rattle.logic_core.specs.declared.problem.Item.TheVariants.{Fof as ItemFof, Include}
 
+-- a constant has a name
 abbrev pub TermIsNamed : Term → Type 0
 TermIsNamed (Variable x) = Unit {0}
 TermIsNamed (Constant c) = IsNameText c
@@ -26,6 +27,7 @@ abbrev mutual
   IsNamed (ForAll' xs _ (more_of-Formula g _)) = IsNamed g
   IsNamed (Exists' xs _ (more_of-Formula g _)) = IsNamed g
 
+  -- so has each member of a row
   pub EachIsNamed : {n : _} → Row_of-Formula n → Type 0
   EachIsNamed end_of-Formula = Unit {0}
   EachIsNamed (more_of-Formula g rest) = IsNamed g × EachIsNamed rest
@@ -35,6 +37,7 @@ abbrev pub SelectionIsNamed : Option (List Text) → Type 0
 SelectionIsNamed None = Unit {0}
 SelectionIsNamed (Some names) = AllByRecursion IsNameText names
 
+-- an item has names
 abbrev pub ItemIsNamed : Item → Type 0
 ItemIsNamed (ItemFof fof) = IsNameText fof.name × IsNamed fof.formula
 ItemIsNamed (Include file only) = IsNameText file × SelectionIsNamed only

@@ -53,10 +53,11 @@ fn put_variables(names: &[Name], out: &mut Bytes) -> Result<(), Memory>
     out.extend_from_slice(b"] : ")
 }
 
-/// Appends a formula that stands inside another one.
+/// Appends a formula inside another one.
 #[cycle(formula)]
 fn put_unit(formula: &Formula, out: &mut Bytes) -> Result<(), Memory>
-    ensures text { OnOk result (out.new ≡ out.old ++ in_unit formula.now (formula_text formula.now)) }
+    ensures text { OnOk result (out.new ≡ out.old
+        ++ in_unit formula.now (formula_text formula.now)) }
     ensures named { OnOk result (IsNamed formula.now) }
 {
     match formula {

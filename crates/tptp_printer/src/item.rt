@@ -2,7 +2,7 @@ ghost use Rattle.std.specs.Prelude.{◌≡◌, ◌++◌, map, codes, OnOk};
 ghost use Rattle.std.specs.List.{AllByRecursion};
 ghost use Rattle.text_core.specs.Names.{IsNameText};
 ghost use Rattle.logic_core.specs.declared.problem.Item.TheVariants.{Fof as ItemFof, Include};
-ghost use Rattle.tptp_grammar.specs.Marks.{role_text};
+ghost use Rattle.tptp_grammar.specs.Roles.{role_text};
 ghost use Rattle.tptp_printer.specs.Canonical.{name_text, joined_texts, selection_text, item_text};
 ghost use Rattle.tptp_printer.specs.Named.{SelectionIsNamed, ItemIsNamed};
 
@@ -30,7 +30,8 @@ fn role_word(role: Role) -> &'static [u8]
 /// Appends the names of a selection with a comma between each two.
 #[tactic(auto, using(crate::proofs::Joined::joined_led))]
 fn put_names(names: &[Name], out: &mut Bytes) -> Result<(), Memory>
-    ensures text { OnOk result (out.new ≡ out.old ++ joined_texts (codes ",") (map name_text names.now)) }
+    ensures text { OnOk result (out.new ≡ out.old
+        ++ joined_texts (codes ",") (map name_text names.now)) }
     ensures named { OnOk result (AllByRecursion IsNameText names.now) }
 {
     let mut before: &[u8] = b"";
@@ -42,7 +43,7 @@ fn put_names(names: &[Name], out: &mut Bytes) -> Result<(), Memory>
     Ok(())
 }
 
-/// Appends what stands behind an inclusion's file.
+/// Appends what follows an inclusion's file.
 fn put_selection(only: &Option<List<Name>>, out: &mut Bytes) -> Result<(), Memory>
     ensures text { OnOk result (out.new ≡ out.old ++ selection_text only.now) }
     ensures named { OnOk result (SelectionIsNamed only.now) }

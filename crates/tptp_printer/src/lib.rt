@@ -6,7 +6,5 @@ mod item;
 mod name;
 mod print;
 mod term;
-#[cfg(test)]
-mod tests;
 
 pub use print::{print_item, print_problem};

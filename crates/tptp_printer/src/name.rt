@@ -1,31 +1,9 @@
 ghost use Rattle.std.specs.Prelude.{◌≡◌, ◌++◌, OnOk};
 ghost use Rattle.text_core.specs.Names as names;
-ghost use Rattle.tptp_lexer.specs.Kinds as kinds;
 ghost use Rattle.tptp_printer.specs.Canonical.{escaped, quoted_text, word_text, name_text};
 
-use text_core::{Bytes, Memory, Name, are_digits, is_digit, is_lower_word};
-
-/// Whether a text is a natural number.
-fn is_natural(text: &[u8]) -> bool
-    ensures { result ≡ kinds.is_natural text.now }
-{
-    match text {
-        [] => false,
-        [b'0', rest @ ..] => rest.is_empty(),
-        [first, rest @ ..] => is_digit(*first) && are_digits(rest),
-    }
-}
-
-/// Whether a text is an integer.
-fn is_integer(text: &[u8]) -> bool
-    ensures { result ≡ kinds.is_integer text.now }
-{
-    match text {
-        [] => false,
-        [b'+' | b'-', rest @ ..] => is_natural(rest),
-        _ => is_natural(text),
-    }
-}
+use text_core::{Bytes, Memory, Name, is_lower_word};
+use tptp_lexer::is_integer;
 
 /// Appends bytes, with a backslash before each quote and backslash.
 fn put_escaped(bytes: &[u8], out: &mut Bytes) -> Result<(), Memory>

@@ -20,7 +20,8 @@ fn put_term(term: &Term, out: &mut Bytes) -> Result<(), Memory>
 /// Appends terms with a comma between each two.
 #[tactic(auto, using(crate::proofs::Joined::joined_led))]
 fn put_terms(terms: &[Term], out: &mut Bytes) -> Result<(), Memory>
-    ensures text { OnOk result (out.new ≡ out.old ++ joined_texts (codes ",") (map term_text terms.now)) }
+    ensures text { OnOk result (out.new ≡ out.old
+        ++ joined_texts (codes ",") (map term_text terms.now)) }
     ensures named { OnOk result (AllByRecursion TermIsNamed terms.now) }
 {
     let mut before: &[u8] = b"";
@@ -54,7 +55,8 @@ pub(crate) fn put_equation(
     right: &Term,
     out: &mut Bytes,
 ) -> Result<(), Memory>
-    ensures text { OnOk result (out.new ≡ out.old ++ (term_text left.now ++ sign.now ++ term_text right.now)) }
+    ensures text { OnOk result (out.new ≡ out.old
+        ++ (term_text left.now ++ sign.now ++ term_text right.now)) }
     ensures named { OnOk result (TermIsNamed left.now × TermIsNamed right.now) }
 {
     put_term(left, out)?;

@@ -17,7 +17,7 @@ use Rattle.vernacular_tree.specs.declared.context.Context.{Context}
 use Rattle.vernacular_tree.specs.declared.tree.Mp.{Mp}
 use Rattle.vernacular_tree.specs.declared.tree.Body.{Body}
 use Rattle.vernacular_tree.specs.declared.tree.End.{End, As, Efq, Cs', Cs, Row_of-Body, end_of-Body, more_of-Body}
-use Rattle.vernacular_tree.proofs.Lists.{every_map, every_get, some_with}
+use Rattle.text_core.proofs.Laws.{each_map, each_get, some_with}
 use Rattle.vernacular_tree.proofs.Numbers.{counted_length}
 use Rattle.vernacular_tree.proofs.Rows.{Cs_size, Cs_shallow}
 use Rattle.vernacular_tree.proofs.Splits.{ListProves, split_closes}
@@ -49,7 +49,7 @@ module _ (constants : ℕ) (task : Task) (right : IsTask constants task) where
       let xs : List ℕ = parameters task ++ args in
       let long : length xs ≡ task.goal.universals + task.goal.existentials
       = omega (arith, length-append (parameters task) args, counted_length (task.start - task.goal.universals) task.goal.universals, h.args_known.length_is) in
-      let below = every_get (AllByRecursion (AtomIsBelow (task.goal.universals + task.goal.existentials) constants)) task.goal.disjuncts (disjunct - 1) h.atoms right.goal.disjuncts h.disjunct_is in
+      let below = each_get (AllByRecursion (AtomIsBelow (task.goal.universals + task.goal.existentials) constants)) task.goal.disjuncts (disjunct - 1) h.atoms right.goal.disjuncts h.disjunct_is in
       let reads : map (slice_index e) xs ≡ parameters task ++ map (slice_index e) args
       = map-append (slice_index e) (parameters task) args ∙ ap (λ (ps : List ℕ). ps ++ map (slice_index e) args) (parameters_fixed e from to c) in
       record {
@@ -68,7 +68,7 @@ module _ (constants : ℕ) (task : Task) (right : IsTask constants task) where
       let found = go e from to c h in
       record { body = found.body; proves = found.proves; small = omega (arith, found.small); shallow = found.shallow }
   steps_carry (step ∷ steps) P most deepest go e from to c h =
-      let formed = every_get (IsWellFormed constants) task.forms step.form h.0 right.forms h.1 in
+      let formed = each_get (IsWellFormed constants) task.forms step.form h.0 right.forms h.1 in
       let args : List ℕ = map (slice_index e) step.args in
       let found = steps_carry steps P most deepest go (e ++ counted to.elements h.0.existentials) (after_mp from h.0 step.args) (after_mp to h.0 args)
       (step_carries constants task right e from to c h.0 step.args formed h.2) h.3 in
@@ -107,7 +107,7 @@ module _ (constants : ℕ) (task : Task) (right : IsTask constants task) where
         small = let a = first.small in let b = h.small in omega arith;
         shallow = (
           let a : nesting first.body ≤ deepest = first.shallow in omega arith,
-          every_map {P = λ b. nesting b ≤ deepest_other} {Q = λ b. nesting b ≤ max deepest deepest_other}
+          each_map {P = λ b. nesting b ≤ deepest_other} {Q = λ b. nesting b ≤ max deepest deepest_other}
               (λ b low. let l : nesting b ≤ deepest_other = low in omega arith) h.bodies h.shallow,
         );
       }
@@ -127,7 +127,7 @@ module _ (constants : ℕ) (task : Task) (right : IsTask constants task) where
       shallow = omega arith;
     }
     end_carries (Cs' line s row) e from to c h =
-        let carried : LineCarries e to (Cases h.0) = every_get (LineCarries e to) from.lines line (Cases h.0) c.lines h.1 in
+        let carried : LineCarries e to (Cases h.0) = each_get (LineCarries e to) from.lines line (Cases h.0) c.lines h.1 in
         ⊎_elim
         (λ l. split_carries to l.0 (map (map (image e)) h.0) (sizes row) (greatest_nesting row) l.1 (row_carries row h.0 e from to c carried.0 h.2))
         (λ r. let found = one_carries row h.0 e from to c carried.0 r h.2 in

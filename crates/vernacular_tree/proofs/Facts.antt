@@ -11,7 +11,7 @@ use Rattle.vernacular_tree.specs.Contexts.{slot_at, atom_at, line_of, LineHas, S
 use Rattle.vernacular_tree.specs.declared.context.Line.{Line}
 use Rattle.vernacular_tree.specs.declared.context.Line.TheVariants.{Facts, Cases, Falsum}
 use Rattle.vernacular_tree.specs.declared.context.Context.{Context}
-use Rattle.vernacular_tree.proofs.Lists.{every_map, every_index, some_with, map_same}
+use Rattle.text_core.proofs.Laws.{each_map, each_index, some_with, each_same}
 
 -- the element of a slot of a fact
 abbrev pub slot_in : List ℕ → Slot → ℕ
@@ -41,19 +41,19 @@ module _ (i : Interpretation) where
   fact_grows e ys fact h =
       let longer : length e < suc (length (e ++ ys)) = omega (arith, length-append e ys) in
       let same : map (slot_in (e ++ ys)) fact.args ≡ map (slot_in e) fact.args
-      = map_same (slot_in (e ++ ys)) (slot_in e) fact.args (every_map (slot_grows e ys) fact.args h.within) in
+      = each_same (slot_in (e ++ ys)) (slot_in e) fact.args (each_map (slot_grows e ys) fact.args h.within) in
       record {
-        within = every_map (λ s. slot_below (length e) (length (e ++ ys)) s longer) fact.args h.within;
+        within = each_map (λ s. slot_below (length e) (length (e ++ ys)) s longer) fact.args h.within;
         holds = ap (i.holds fact.symbol) same ∙ h.holds;
       }
 
   lists_grow : (e ys : List ℕ) (lists : List (List Atom)) → SomeOf (AllByRecursion (FactTrue e)) lists → SomeOf (AllByRecursion (FactTrue (e ++ ys))) lists
   lists_grow e ys [] h = h
-  lists_grow e ys (facts ∷ lists) (inl h) = inl (every_map (fact_grows e ys) facts h)
+  lists_grow e ys (facts ∷ lists) (inl h) = inl (each_map (fact_grows e ys) facts h)
   lists_grow e ys (facts ∷ lists) (inr h) = inr (lists_grow e ys lists h)
 
   pub line_grows : (e ys : List ℕ) (line : Line) → LineTrue e line → LineTrue (e ++ ys) line
-  line_grows e ys (Facts facts) h = every_map (fact_grows e ys) facts h
+  line_grows e ys (Facts facts) h = each_map (fact_grows e ys) facts h
   line_grows e ys (Cases lists) h = lists_grow e ys lists h
   line_grows e ys Falsum h = h
 
@@ -79,7 +79,7 @@ module _ (i : Interpretation) where
 
   module _ (n constants : ℕ) (xs e : List ℕ) (long : length xs ≡ n) (known : AllByRecursion (λ x. x < length e) xs) (named : Named constants e) where
     slot_within : (s : Slot) → SlotIsBelow n constants s → SlotIsBelow 0 (length e) (slot_at xs s)
-    slot_within (Variable v) h = every_index (λ x. x < length e) xs v (omega arith) known
+    slot_within (Variable v) h = each_index (λ x. x < length e) xs v (omega arith) known
     slot_within (Constant c) h = (named c h).0
 
     slot_reads : (s : Slot) → SlotIsBelow n constants s → slot_in e (slot_at xs s) ≡ slot_value i (map (slice_index e) xs) s

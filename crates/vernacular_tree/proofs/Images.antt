@@ -15,9 +15,8 @@ use Rattle.vernacular_tree.specs.Carries.{slot_image, image, HasElements, Images
 use Rattle.vernacular_tree.specs.declared.context.Line.{Line}
 use Rattle.vernacular_tree.specs.declared.context.Line.TheVariants.{Facts, Cases, Falsum}
 use Rattle.vernacular_tree.specs.declared.context.Context.{Context}
-use Rattle.vernacular_tree.proofs.Lists.{every_map, every_append, every_index, every_mapped, every_both, some_with, some_both, some_at, some_mapped, map_same, each_among, get_grows, get_last}
+use Rattle.text_core.proofs.Laws.{each_map, each_append, each_index, each_mapped, each_both, some_with, some_both, some_at, some_mapped, each_same, each_image_is_among, get_front, get_behind, some_front}
 use Rattle.vernacular_tree.proofs.Numbers.{below_greater, counted_length, counted_below, both_read}
-use Rattle.vernacular_tree.proofs.Lowered.{some_left}
 
 -- a longer list keeps what the elements stand for
 abbrev pub Keeps : List ℕ → List ℕ → Type 0
@@ -38,45 +37,45 @@ slot_same e e2 keeps (Variable v) h = refl
 slot_same e e2 keeps (Constant a) h = ap Constant (keeps a h).1
 
 pub elements_kept : (e e2 : List ℕ) → Keeps e e2 → (fact : Atom) → HasElements (length e) fact → HasElements (length e2) fact
-elements_kept e e2 keeps fact h = every_map (slot_kept e e2 keeps) fact.args h
+elements_kept e e2 keeps fact h = each_map (slot_kept e e2 keeps) fact.args h
 
 pub image_same : (e e2 : List ℕ) → Keeps e e2 → (fact : Atom) → HasElements (length e) fact → image e2 fact ≡ image e fact
 image_same e e2 keeps fact h =
     ap (λ (args : List Slot). record { positive = fact.positive; symbol = fact.symbol; args = args })
-    (map_same (slot_image e2) (slot_image e) fact.args (every_map (slot_same e e2 keeps) fact.args h))
+    (each_same (slot_image e2) (slot_image e) fact.args (each_map (slot_same e e2 keeps) fact.args h))
 
 -- the other context with more lines
 pub stands_more : (to more : Context) (lines : List Line) → more.lines ≡ to.lines ++ lines → (fact : Atom) → Stands to fact → Stands more fact
-stands_more to more lines is fact h = rw is (some_left (LineHas fact) to.lines lines h)
+stands_more to more lines is fact h = rw is (some_front (LineHas fact) to.lines lines h)
 
 images_kept : (e e2 : List ℕ) → Keeps e e2 → (to more : Context) (lines : List Line) → more.lines ≡ to.lines ++ lines
     → (facts : List Atom) → AllByRecursion (HasElements (length e)) facts → ImagesStand e to facts → ImagesStand e2 more facts
 images_kept e e2 keeps to more lines is facts within stand =
-    every_both {R = λ fact. Stands more (image e2 fact)}
+    each_both {R = λ fact. Stands more (image e2 fact)}
     (λ fact has stands. subst (Stands more) (sym (image_same e e2 keeps fact has)) (stands_more to more lines is (image e fact) stands)) facts within stand
 
 lists_same : (e e2 : List ℕ) → Keeps e e2 → (lists : List (List Atom)) → AllByRecursion (AllByRecursion (HasElements (length e))) lists
     → map (map (image e2)) lists ≡ map (map (image e)) lists
 lists_same e e2 keeps lists within =
-    map_same (map (image e2)) (map (image e)) lists
-    (every_map (λ facts has. map_same (image e2) (image e) facts (every_map (image_same e e2 keeps) facts has)) lists within)
+    each_same (map (image e2)) (map (image e)) lists
+    (each_map (λ facts has. each_same (image e2) (image e) facts (each_map (image_same e e2 keeps) facts has)) lists within)
 
 pub line_kept : (e e2 : List ℕ) → Keeps e e2 → (to more : Context) (lines : List Line) → more.lines ≡ to.lines ++ lines
     → (line : Line) → LineCarries e to line → LineCarries e2 more line
-line_kept e e2 keeps to more lines is (Facts facts) h = (every_map (elements_kept e e2 keeps) facts h.0, images_kept e e2 keeps to more lines is facts h.0 h.1)
+line_kept e e2 keeps to more lines is (Facts facts) h = (each_map (elements_kept e e2 keeps) facts h.0, images_kept e e2 keeps to more lines is facts h.0 h.1)
 line_kept e e2 keeps to more lines is (Cases lists) h = (
-  every_map (λ facts has. every_map (elements_kept e e2 keeps) facts has) lists h.0,
-  ⊎_elim (λ l. inl (l.0, rw (is, lists_same e e2 keeps lists h.0) (get_grows to.lines lines l.0 (Cases (map (map (image e)) lists)) l.1)))
+  each_map (λ facts has. each_map (elements_kept e e2 keeps) facts has) lists h.0,
+  ⊎_elim (λ l. inl (l.0, rw (is, lists_same e e2 keeps lists h.0) (get_front to.lines lines l.0 (Cases (map (map (image e)) lists)) l.1)))
       (λ r. inr (some_both (λ facts has stand. images_kept e e2 keeps to more lines is facts has stand) lists h.0 r)) h.1,
 )
-line_kept e e2 keeps to more lines is Falsum h = rw is (some_left (λ line. line ≡ Falsum) to.lines lines h)
+line_kept e e2 keeps to more lines is Falsum h = rw is (some_front (λ line. line ≡ Falsum) to.lines lines h)
 
 -- the new line of disjuncts, where its image is a line of the other context
 pub new_line : (e : List ℕ) (to : Context) (number : ℕ) (lists : List (List Atom)) → AllByRecursion (AllByRecursion (HasElements (length e))) lists
     → slice_get to.lines number ≡ Some (line_of (map (map (image e)) lists)) → LineCarries e to (line_of lists)
 new_line e to number [] within is = some_at (λ line. line ≡ Falsum) to.lines number Falsum is refl
 new_line e to number (facts ∷ []) within is =
-    (within.0, every_map (λ fact among. some_at (LineHas (image e fact)) to.lines number (Facts (map (image e) facts)) is among) facts (each_among (image e) facts))
+    (within.0, each_map (λ fact among. some_at (LineHas (image e fact)) to.lines number (Facts (map (image e) facts)) is among) facts (each_image_is_among (image e) facts))
 new_line e to number (facts ∷ more ∷ rest) within is = (within, inl (number, is))
 
 -- the new line of disjuncts, where the images of one of them stand
@@ -95,7 +94,7 @@ in_line e to fact Falsum h has = absurd has
 -- atoms of forms at elements
 module _ (constants n : ℕ) (xs : List ℕ) (long : length xs ≡ n) where
   slot_at_within : (m : ℕ) → constants ≤ m → AllByRecursion (λ x. x < m) xs → (s : Slot) → SlotIsBelow n constants s → SlotIsBelow 0 m (slot_at xs s)
-  slot_at_within m le known (Variable v) h = every_index (λ x. x < m) xs v (omega arith) known
+  slot_at_within m le known (Variable v) h = each_index (λ x. x < m) xs v (omega arith) known
   slot_at_within m le known (Constant c) h = omega arith
 
   slots_at_within : (m : ℕ) → constants ≤ m → AllByRecursion (λ x. x < m) xs → (ss : List Slot) → AllByRecursion (SlotIsBelow n constants) ss
@@ -146,14 +145,14 @@ module _ (constants : ℕ) (task : Task) (right : IsTask constants task) (e : Li
       let known : AllByRecursion (λ x. x < length e) args = rw c.length_is h.known in
       record {
         length_is = length-map args (slice_index e) ∙ h.length_is;
-        known = every_mapped {P = λ x. x < length e} {Q = λ x. x < length e} (λ x. x < to.elements) (slice_index e)
-            (λ x below _. every_index (λ y. y < to.elements) e x below c.known) args known known;
+        known = each_mapped {P = λ x. x < length e} {Q = λ x. x < length e} (λ x. x < to.elements) (slice_index e)
+            (λ x below _. each_index (λ y. y < to.elements) e x below c.known) args known known;
       }
 
   pub atoms_carry : (n : ℕ) (xs : List ℕ) → length xs ≡ n → (atoms : List Atom) → AllByRecursion (AtomIsBelow n constants) atoms
       → AllByRecursion (λ atom. Stands from (atom_at xs atom)) atoms → AllByRecursion (λ atom. Stands to (atom_at (map (slice_index e) xs) atom)) atoms
   atoms_carry n xs long atoms below stand =
-      every_both (λ atom b stands. subst (Stands to) (atom_at_image constants n xs long e constants_fixed atom b) (standing_carries (atom_at xs atom) stands)) atoms below stand
+      each_both (λ atom b stands. subst (Stands to) (atom_at_image constants n xs long e constants_fixed atom b) (standing_carries (atom_at xs atom) stands)) atoms below stand
 
   pub instance_carries : (form : Form) (args : List ℕ) → IsWellFormed constants form → IsInstance from form args → IsInstance to form (map (slice_index e) args)
   instance_carries form args formed inst = record {
@@ -168,13 +167,13 @@ module _ (constants : ℕ) (task : Task) (right : IsTask constants task) (e : Li
     length_is = c.length_is;
     known = rw same c.known;
     start_fixed = c.start_fixed;
-    lines = every_append (LineCarries e more) from.lines (Facts facts ∷ []) (every_map (line_kept e e (keeps_self e) to more lines is) from.lines c.lines) (line, tt);
+    lines = each_append (LineCarries e more) from.lines (Facts facts ∷ []) (each_map (line_kept e e (keeps_self e) to more lines is) from.lines c.lines) (line, tt);
   }
 
   pub facts_carry : (facts : List Atom) → AllByRecursion (HasElements (length e)) facts → Carries task e (with_facts from facts) (with_facts to (map (image e) facts))
   facts_carry facts within =
       facts_line facts (with_facts to (map (image e) facts)) (Facts (map (image e) facts) ∷ []) refl refl
-      (new_line e (with_facts to (map (image e) facts)) (length to.lines) (facts ∷ []) (within, tt) (get_last to.lines (Facts (map (image e) facts))))
+      (new_line e (with_facts to (map (image e) facts)) (length to.lines) (facts ∷ []) (within, tt) (get_behind to.lines (Facts (map (image e) facts)) []))
 
   pub standing_facts_carry : (facts : List Atom) → AllByRecursion (HasElements (length e)) facts → ImagesStand e to facts → Carries task e (with_facts from facts) to
   standing_facts_carry facts within stand = facts_line facts to [] (sym (append-nil to.lines)) refl (within, stand)
@@ -191,7 +190,7 @@ module _ (constants : ℕ) (task : Task) (right : IsTask constants task) (e : Li
     all_known =
         let long : length (e ++ ys) ≡ length e + length ys = length-append e ys in
         let same : length e ≡ from.elements = c.length_is in
-        every_append (λ x. x < length (e ++ ys)) args (counted from.elements form.existentials)
+        each_append (λ x. x < length (e ++ ys)) args (counted from.elements form.existentials)
         (below_greater from.elements (length (e ++ ys)) args (omega arith) inst.args_known.known)
         (counted_below from.elements form.existentials (length (e ++ ys)) (omega arith))
 
@@ -205,8 +204,8 @@ module _ (constants : ℕ) (task : Task) (right : IsTask constants task) (e : Li
     disjuncts_within =
         let long : length (e ++ ys) ≡ length e + length ys = length-append e ys in
         let all = constants_known in
-        every_mapped (AllByRecursion (HasElements (length (e ++ ys)))) (map (atom_at all_args))
-        (λ atoms below also. every_mapped (HasElements (length (e ++ ys))) (atom_at all_args)
+        each_mapped (AllByRecursion (HasElements (length (e ++ ys)))) (map (atom_at all_args))
+        (λ atoms below also. each_mapped (HasElements (length (e ++ ys))) (atom_at all_args)
         (λ atom b bb. atom_at_within constants (form.universals + form.existentials) all_args all_long (length (e ++ ys)) (omega arith) all_known atom b) atoms below also)
         form.disjuncts formed.disjuncts formed.disjuncts
 
@@ -221,11 +220,11 @@ module _ (constants : ℕ) (task : Task) (right : IsTask constants task) (e : Li
         let same : length e ≡ from.elements = c.length_is in
         record {
           length_is = omega arith;
-          known = every_append (λ x. x < more.elements) e ys (below_greater to.elements more.elements e le c.known) new;
+          known = each_append (λ x. x < more.elements) e ys (below_greater to.elements more.elements e le c.known) new;
           start_fixed = λ a below. let old = c.start_fixed a below in
               (let low : a < from.elements = old.0 in omega arith, get_or_append_left e ys 0 a (let low : a < from.elements = old.0 in omega arith) ∙ old.1);
-          lines = every_append (LineCarries (e ++ ys) more) from.lines (line_of (map (map (atom_at all_args)) form.disjuncts) ∷ [])
-              (every_map (line_kept e (e ++ ys) (keeps_more e ys) to more lines is) from.lines c.lines) (line, tt);
+          lines = each_append (LineCarries (e ++ ys) more) from.lines (line_of (map (map (atom_at all_args)) form.disjuncts) ∷ [])
+              (each_map (line_kept e (e ++ ys) (keeps_more e ys) to more lines is) from.lines c.lines) (line, tt);
         }
 
     -- where the images of a disjunct stand, the other context need not take the step
@@ -237,7 +236,7 @@ module _ (constants : ℕ) (task : Task) (right : IsTask constants task) (e : Li
         after_carries to [] (sym (append-nil to.lines)) (omega arith) known
         (witnessed_line (e ++ ys) to (map (map (atom_at all_args)) form.disjuncts) disjuncts_within
         (some_mapped (ImagesStand (e ++ ys) to) (map (atom_at all_args))
-        (λ atoms below stands. every_mapped (λ fact. Stands to (image (e ++ ys) fact)) (atom_at all_args)
+        (λ atoms below stands. each_mapped (λ fact. Stands to (image (e ++ ys) fact)) (atom_at all_args)
         (λ atom b s. subst (Stands to) (sym (atom_at_image constants (form.universals + form.existentials) all_args all_long (e ++ ys) more_fixed atom b)) s) atoms below stands)
         form.disjuncts formed.disjuncts stand2))
 
@@ -253,4 +252,4 @@ module _ (constants : ℕ) (task : Task) (right : IsTask constants task) (e : Li
       after_carries form args formed inst ys many more (last ∷ []) refl (omega arith)
       (counted_below to.elements form.existentials more.elements (omega arith))
       (new_line (e ++ ys) more (length to.lines) lists (disjuncts_within form args formed inst ys many)
-      (get_last to.lines last ∙ ap (λ (ls : List (List Atom)). Some (line_of ls)) (sym (disjuncts_image form args formed inst ys many))))
+      (get_behind to.lines last [] ∙ ap (λ (ls : List (List Atom)). Some (line_of ls)) (sym (disjuncts_image form args formed inst ys many))))

@@ -15,7 +15,7 @@ use Rattle.vernacular_tree.specs.Witnessed.{LineIsBelow, IsContext, Witnessed}
 use Rattle.vernacular_tree.specs.declared.context.Line.{Line}
 use Rattle.vernacular_tree.specs.declared.context.Line.TheVariants.{Facts, Cases, Falsum}
 use Rattle.vernacular_tree.specs.declared.context.Context.{Context}
-use Rattle.vernacular_tree.proofs.Lists.{every_map, every_append, every_get, every_mapped, every_both, some_at, each_member, get_at}
+use Rattle.text_core.proofs.Laws.{each_map, each_append, each_get, each_mapped, each_both, some_at, each_is_among, get_behind}
 use Rattle.vernacular_tree.proofs.Numbers.{below_greater, counted_length, counted_below, counted_at}
 use Rattle.vernacular_tree.proofs.Images.{atom_at_within, witness_carries}
 
@@ -24,11 +24,11 @@ slot_more n m le (Variable v) h = h
 slot_more n m le (Constant c) h = omega arith
 
 fact_more : (n m : ℕ) → n ≤ m → (fact : Atom) → HasElements n fact → HasElements m fact
-fact_more n m le fact h = every_map (slot_more n m le) fact.args h
+fact_more n m le fact h = each_map (slot_more n m le) fact.args h
 
 line_more : (n m : ℕ) → n ≤ m → (line : Line) → LineIsBelow n line → LineIsBelow m line
-line_more n m le (Facts facts) h = every_map (fact_more n m le) facts h
-line_more n m le (Cases lists) h = every_map (λ facts has. every_map (fact_more n m le) facts has) lists h
+line_more n m le (Facts facts) h = each_map (fact_more n m le) facts h
+line_more n m le (Cases lists) h = each_map (λ facts has. each_map (fact_more n m le) facts has) lists h
 line_more n m le Falsum h = tt
 
 line_below : (n : ℕ) (lists : List (List Atom)) → AllByRecursion (AllByRecursion (HasElements n)) lists → LineIsBelow n (line_of lists)
@@ -39,11 +39,11 @@ line_below n (facts ∷ more ∷ rest) h = h
 pub case_is_context : (task : Task) (context : Context) (line : ℕ) (lists : List (List Atom)) (i : ℕ) (facts : List Atom) → IsContext task context
     → slice_get context.lines line ≡ Some (Cases lists) → slice_get lists i ≡ Some facts → IsContext task (with_facts context facts)
 case_is_context task context line lists i facts c is at =
-    let all : AllByRecursion (AllByRecursion (HasElements context.elements)) lists = every_get (LineIsBelow context.elements) context.lines line (Cases lists) c.lines is in
+    let all : AllByRecursion (AllByRecursion (HasElements context.elements)) lists = each_get (LineIsBelow context.elements) context.lines line (Cases lists) c.lines is in
     record {
       start = c.start;
-      lines = every_append (LineIsBelow context.elements) context.lines (Facts facts ∷ []) c.lines
-          (every_get (AllByRecursion (HasElements context.elements)) lists i facts all at, tt);
+      lines = each_append (LineIsBelow context.elements) context.lines (Facts facts ∷ []) c.lines
+          (each_get (AllByRecursion (HasElements context.elements)) lists i facts all at, tt);
     }
 
 module _ (constants : ℕ) (task : Task) (right : IsTask constants task) where
@@ -54,7 +54,7 @@ module _ (constants : ℕ) (task : Task) (right : IsTask constants task) where
   start_is_context = record {
     start = omega arith;
     lines = (
-      every_mapped (HasElements task.start) (atom_at (parameters task))
+      each_mapped (HasElements task.start) (atom_at (parameters task))
           (λ atom below also. atom_at_within constants task.goal.universals (parameters task)
           (counted_length (task.start - task.goal.universals) task.goal.universals) task.start constants_start
           (counted_below (task.start - task.goal.universals) task.goal.universals task.start (let start = right.start in omega arith)) atom below)
@@ -70,17 +70,17 @@ module _ (constants : ℕ) (task : Task) (right : IsTask constants task) where
       let xs : List ℕ = args ++ counted context.elements form.existentials in
       let long : length xs ≡ form.universals + form.existentials
       = omega (arith, length-append args (counted context.elements form.existentials), inst.args_known.length_is, counted_length context.elements form.existentials) in
-      let known : AllByRecursion (λ x. x < n) xs = every_append (λ x. x < n) args (counted context.elements form.existentials)
+      let known : AllByRecursion (λ x. x < n) xs = each_append (λ x. x < n) args (counted context.elements form.existentials)
       (below_greater context.elements n args (omega arith) inst.args_known.known) (counted_below context.elements form.existentials n (omega arith)) in
       let all = constants_start in
       let start : task.start ≤ context.elements = c.start in
       record {
         start = omega arith;
-        lines = every_append (LineIsBelow n) context.lines (line_of (map (map (atom_at xs)) form.disjuncts) ∷ [])
-            (every_map (line_more context.elements n (omega arith)) context.lines c.lines) (
+        lines = each_append (LineIsBelow n) context.lines (line_of (map (map (atom_at xs)) form.disjuncts) ∷ [])
+            (each_map (line_more context.elements n (omega arith)) context.lines c.lines) (
               line_below n (map (map (atom_at xs)) form.disjuncts)
-                  (every_mapped (AllByRecursion (HasElements n)) (map (atom_at xs))
-                  (λ atoms below also. every_mapped (HasElements n) (atom_at xs)
+                  (each_mapped (AllByRecursion (HasElements n)) (map (atom_at xs))
+                  (λ atoms below also. each_mapped (HasElements n) (atom_at xs)
                   (λ atom b bb. atom_at_within constants (form.universals + form.existentials) xs long n (omega arith) known atom b) atoms below also)
                   form.disjuncts formed.disjuncts formed.disjuncts),
               tt,
@@ -111,8 +111,8 @@ module _ (n : ℕ) where
   line_self : (to : Context) (number : ℕ) (line : Line) → slice_get to.lines number ≡ Some line → LineIsBelow n line → LineCarries (counted 0 n) to line
   line_self to number (Facts facts) is below = (
     rw (counted_length 0 n) below,
-    every_both {R = λ fact. Stands to (image (counted 0 n) fact)}
-        (λ fact has among. subst (Stands to) (sym (image_self fact has)) (some_at (LineHas fact) to.lines number (Facts facts) is among)) facts below (each_member facts),
+    each_both {R = λ fact. Stands to (image (counted 0 n) fact)}
+        (λ fact has among. subst (Stands to) (sym (image_self fact has)) (some_at (LineHas fact) to.lines number (Facts facts) is among)) facts below (each_is_among facts),
   )
   line_self to number (Cases lists) is below =
       (rw (counted_length 0 n) below, inl (number, is ∙ ap (λ (ls : List (List Atom)). Some (Cases ls)) (sym (lists_self lists below))))
@@ -122,7 +122,7 @@ module _ (n : ℕ) where
       → AllByRecursion (LineCarries (counted 0 n) to) lines
   lines_self to before [] is below = tt
   lines_self to before (line ∷ lines) is below = (
-    line_self to (length before) line (rw is (get_at before line lines)) below.0,
+    line_self to (length before) line (rw is (get_behind before line lines)) below.0,
     lines_self to (before ++ line ∷ []) lines (is ∙ sym (append_assoc before (line ∷ []) lines)) below.1,
   )
 

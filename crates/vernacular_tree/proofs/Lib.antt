@@ -1,4 +1,4 @@
-pub mod Lists
+pub mod Laws
 pub mod Numbers
 pub mod Facts
 pub mod Truths

@@ -14,29 +14,15 @@ use Rattle.vernacular_tree.specs.declared.context.Context.{Context}
 use Rattle.vernacular_tree.specs.declared.tree.Mp.{Mp}
 use Rattle.vernacular_tree.specs.declared.tree.Body.{Body}
 use Rattle.vernacular_tree.specs.declared.tree.End.{End, As, Efq, Cs', Row_of-Body, end_of-Body, more_of-Body}
-use Rattle.vernacular_tree.proofs.Lists.{every_map, every_mapped, some_with}
-
-pub some_left : {X : Type 0} (P : X → Type 0) (xs ys : List X) → SomeOf P xs → SomeOf P (xs ++ ys)
-some_left P [] ys h = absurd h
-some_left P (x ∷ xs) ys (inl h) = inl h
-some_left P (x ∷ xs) ys (inr h) = inr (some_left P xs ys h)
-
-pub some_right : {X : Type 0} (P : X → Type 0) (xs ys : List X) → SomeOf P ys → SomeOf P (xs ++ ys)
-some_right P [] ys h = h
-some_right P (x ∷ xs) ys h = inr (some_right P xs ys h)
-
-pub some_split : {X : Type 0} (P : X → Type 0) (xs ys : List X) → SomeOf P (xs ++ ys) → SomeOf P xs ⊎ SomeOf P ys
-some_split P [] ys h = inr h
-some_split P (x ∷ xs) ys (inl h) = inl (inl h)
-some_split P (x ∷ xs) ys (inr h) = ⊎_elim (λ l. inl (inr l)) (λ r. inr r) (some_split P xs ys h)
+use Rattle.text_core.proofs.Laws.{each_map, each_mapped, some_with, some_front, some_back, some_append}
 
 -- a member may be left out where those before it stand for it
 pub some_dropped : {X : Type 0} (P : X → Type 0) (before : List X) (x : X) (after : List X) → (P x → SomeOf P before)
     → SomeOf P (before ++ x ∷ after) → SomeOf P (before ++ after)
 some_dropped P before x after instead h =
-    ⊎_elim (some_left P before after)
-    (⊎_elim (λ here. some_left P before after (instead here)) (some_right P before after))
-    (some_split P before (x ∷ after) h)
+    ⊎_elim (some_front P before after)
+    (⊎_elim (λ here. some_front P before after (instead here)) (some_back P before after))
+    (some_append P before (x ∷ after) h)
 
 -- the second context lacks the line with this number, whose facts stand before it
 pub record Lowers (gone : ℕ) (context lacking : Context) : Type 0 where
@@ -98,7 +84,7 @@ known_lowered gone context lacking l count args h = record {
 instance_lowered : (gone : ℕ) (context lacking : Context) → Lowers gone context lacking → (form : Form) (args : List ℕ) → IsInstance context form args → IsInstance lacking form args
 instance_lowered gone context lacking l form args h = record {
   args_known = known_lowered gone context lacking l form.universals args h.args_known;
-  premises = every_map (λ atom. stands_lowered gone context lacking l (atom_at args atom)) form.premises h.premises;
+  premises = each_map (λ atom. stands_lowered gone context lacking l (atom_at args atom)) form.premises h.premises;
 }
 
 -- one more line on both sides
@@ -143,7 +129,7 @@ module _ (task : Task) where
     from_one = h.from_one;
     disjunct_is = h.disjunct_is;
     args_known = known_lowered gone context lacking l task.goal.existentials args h.args_known;
-    stand = every_map (λ atom. stands_lowered gone context lacking l (atom_at (parameters task ++ args) atom)) h.atoms h.stand;
+    stand = each_map (λ atom. stands_lowered gone context lacking l (atom_at (parameters task ++ args) atom)) h.atoms h.stand;
   }
 
   mutual
@@ -178,7 +164,7 @@ module _ (task : Task) where
         lacking_lines = sym (append-nil context.lines);
         number = refl;
         elements = let zero_new : form.existentials ≡ 0 = b.none_new in omega arith;
-        stand = every_mapped (λ fact. SomeOf (LineHas fact) context.lines) (atom_at args) (λ atom stands also. stands) b.atoms b.stand b.stand;
+        stand = each_mapped (λ fact. SomeOf (LineHas fact) context.lines) (atom_at args) (λ atom stands also. stands) b.atoms b.stand b.stand;
       }
 
   same_form : (f g : Form) (form : ℕ) → slice_get task.forms form ≡ Some f → slice_get task.forms form ≡ Some g → f ≡ g

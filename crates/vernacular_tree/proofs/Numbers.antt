@@ -4,7 +4,7 @@ use Rattle.std.proofs.Math.Seq.{get_or-append_seam}
 use Rattle.std.proofs.lemmas.List.{map-append, get_or_append_left}
 use Rattle.std.specs.List.{AllByRecursion}
 use Rattle.vernacular_tree.specs.Contexts.{counted}
-use Rattle.vernacular_tree.proofs.Lists.{map_same, every_map}
+use Rattle.text_core.proofs.Laws.{each_same, each_map}
 
 pub counted_length : (first k : ℕ) → length (counted first k) ≡ k
 counted_length first zero = refl
@@ -33,7 +33,7 @@ counted_read e (y ∷ ys) n (suc k) a b =
 
 -- old numbers read the old elements
 pub old_read : (e ys args : List ℕ) → AllByRecursion (λ x. x < length e) args → map (slice_index (e ++ ys)) args ≡ map (slice_index e) args
-old_read e ys args h = map_same (slice_index (e ++ ys)) (slice_index e) args (every_map (λ x below. get_or_append_left e ys 0 x below) args h)
+old_read e ys args h = each_same (slice_index (e ++ ys)) (slice_index e) args (each_map (λ x below. get_or_append_left e ys 0 x below) args h)
 
 -- old and new numbers together
 pub both_read : (e ys args : List ℕ) (n k : ℕ) → length e ≡ n → length ys ≡ k → AllByRecursion (λ x. x < n) args
@@ -46,4 +46,4 @@ both_read e ys args n k a b h =
 
 -- numbers below one bound are below a greater one
 pub below_greater : (n m : ℕ) (xs : List ℕ) → n ≤ m → AllByRecursion (λ x. x < n) xs → AllByRecursion (λ x. x < m) xs
-below_greater n m xs le h = every_map {Q = λ x. x < m} (λ x below. let b : x < n = below in omega arith) xs h
+below_greater n m xs le h = each_map {Q = λ x. x < m} (λ x below. let b : x < n = below in omega arith) xs h

@@ -15,7 +15,7 @@ use Rattle.vernacular_tree.specs.declared.context.Context.{Context}
 use Rattle.vernacular_tree.specs.declared.tree.Mp.{Mp}
 use Rattle.vernacular_tree.specs.declared.tree.Body.{Body}
 use Rattle.vernacular_tree.specs.declared.tree.End.{End, As, Efq, Cs', Row_of-Body, end_of-Body, more_of-Body}
-use Rattle.vernacular_tree.proofs.Lists.{every_map, every_append, every_get, every_index, every_mapped, every_both, some_mapped, some_with, some_at}
+use Rattle.text_core.proofs.Laws.{each_map, each_append, each_get, each_index, each_mapped, each_both, some_mapped, some_with, some_at}
 use Rattle.vernacular_tree.proofs.Numbers.{below_greater, counted_length, counted_below, counted_at, counted_read, both_read, old_read}
 use Rattle.vernacular_tree.proofs.Facts.{FactTrue, LineTrue, line_grows, line_of_true, standing_true, Named, fact_true, atom_true}
 
@@ -34,7 +34,7 @@ module _ (i : Interpretation) (constants : ℕ) (task : Task) (right : IsTask co
   with_facts_true context e facts h all = record {
     length_is = h.length_is;
     elements = h.elements;
-    lines = every_append (LineTrue i e) context.lines (Facts facts ∷ []) h.lines (all, tt);
+    lines = each_append (LineTrue i e) context.lines (Facts facts ∷ []) h.lines (all, tt);
     named = h.named;
     parameters_known = h.parameters_known;
     parameters_read = h.parameters_read;
@@ -48,9 +48,9 @@ module _ (i : Interpretation) (constants : ℕ) (task : Task) (right : IsTask co
         holds (map (slice_index e) args)
         (record {
           length_is = length-map args (slice_index e) ∙ inst.args_known.length_is;
-          are = every_mapped {P = λ x. x < length e} {Q = λ x. x < length e} i.element (slice_index e) (λ x below _. every_index i.element e x below h.elements) args known known;
+          are = each_mapped {P = λ x. x < length e} {Q = λ x. x < length e} i.element (slice_index e) (λ x below _. each_index i.element e x below h.elements) args known known;
         })
-        (every_both (λ atom below stands. atom_true i form.universals constants args e inst.args_known.length_is known h.named atom below
+        (each_both (λ atom below stands. atom_true i form.universals constants args e inst.args_known.length_is known h.named atom below
         (standing_true i e (atom_at args atom) context h.lines stands)) form.premises formed.premises inst.premises)
 
     after_true : (context : Context) (e : List ℕ) (form : Form) (args : List ℕ) → ContextTrue context e → IsWellFormed constants form
@@ -65,7 +65,7 @@ module _ (i : Interpretation) (constants : ℕ) (task : Task) (right : IsTask co
         let count : length e + form.existentials ≤ length e2 = omega (arith, c.values.length_is) in
         let new : AllByRecursion (λ x. x < length e2) (counted context.elements form.existentials)
         = counted_below context.elements form.existentials (length e2) (omega (arith, h.length_is)) in
-        let all_known : AllByRecursion (λ x. x < length e2) xs = every_append (λ x. x < length e2) args (counted context.elements form.existentials) old new in
+        let all_known : AllByRecursion (λ x. x < length e2) xs = each_append (λ x. x < length e2) args (counted context.elements form.existentials) old new in
         let long : length xs ≡ form.universals + form.existentials
         = omega (arith, length-append args (counted context.elements form.existentials), inst.args_known.length_is, counted_length context.elements form.existentials) in
         let named : Named i constants e2 = λ k below. let there = h.named k below in
@@ -74,14 +74,14 @@ module _ (i : Interpretation) (constants : ℕ) (task : Task) (right : IsTask co
         = both_read e ys args context.elements form.existentials h.length_is c.values.length_is inst.args_known.known in
         let holds : SomeOf (AllByRecursion (AtomTrue i (map (slice_index e2) xs))) form.disjuncts = rw reads c.holds in
         let facts : SomeOf (AllByRecursion (FactTrue i e2)) (map (map (atom_at xs)) form.disjuncts)
-        = some_mapped (AllByRecursion (FactTrue i e2)) (map (atom_at xs)) (λ atoms below true_at. every_mapped (FactTrue i e2) (atom_at xs)
+        = some_mapped (AllByRecursion (FactTrue i e2)) (map (atom_at xs)) (λ atoms below true_at. each_mapped (FactTrue i e2) (atom_at xs)
         (λ atom b t. fact_true i (form.universals + form.existentials) constants xs e2 long all_known named atom b t) atoms below true_at)
         form.disjuncts formed.disjuncts holds in
         record {
           length_is = omega (arith, h.length_is, c.values.length_is);
-          elements = every_append i.element e ys h.elements c.values.are;
-          lines = every_append (LineTrue i e2) context.lines (line_of (map (map (atom_at xs)) form.disjuncts) ∷ [])
-              (every_map (line_grows i e ys) context.lines h.lines)
+          elements = each_append i.element e ys h.elements c.values.are;
+          lines = each_append (LineTrue i e2) context.lines (line_of (map (map (atom_at xs)) form.disjuncts) ∷ [])
+              (each_map (line_grows i e ys) context.lines h.lines)
               (line_of_true i e2 (map (map (atom_at xs)) form.disjuncts) facts, tt);
           named = named;
           parameters_known = below_greater (length e) (length e2) (parameters task) (omega arith) h.parameters_known;
@@ -95,8 +95,8 @@ module _ (i : Interpretation) (constants : ℕ) (task : Task) (right : IsTask co
     steps_true [] P go context e h then = go context e h then
     steps_true (step ∷ steps) P go context e h then =
         let form = then.0 in
-        let formed = every_get (IsWellFormed constants) task.forms step.form form right.forms then.1 in
-        let holds = every_get (FormTrue i) task.forms step.form form forms_true then.1 in
+        let formed = each_get (IsWellFormed constants) task.forms step.form form right.forms then.1 in
+        let holds = each_get (FormTrue i) task.forms step.form form forms_true then.1 in
         let c = instance_true context e form step.args h formed holds then.2 in
         steps_true steps P go (after_mp context form step.args) (e ++ c.existentials)
         (after_true context e form step.args h formed then.2 c) then.3
@@ -110,16 +110,16 @@ module _ (i : Interpretation) (constants : ℕ) (task : Task) (right : IsTask co
         let long : length xs ≡ task.goal.universals + task.goal.existentials
         = omega (arith, length-append (parameters task) args, counted_length (task.start - task.goal.universals) task.goal.universals, answer.args_known.length_is) in
         let reads : map (slice_index e) xs ≡ us ++ values = map-append (slice_index e) (parameters task) args ∙ ap (λ (vs : List ℕ). vs ++ values) h.parameters_read in
-        let below = every_get (AllByRecursion (AtomIsBelow (task.goal.universals + task.goal.existentials) constants)) task.goal.disjuncts _ answer.atoms right.goal.disjuncts answer.disjunct_is in
+        let below = each_get (AllByRecursion (AtomIsBelow (task.goal.universals + task.goal.existentials) constants)) task.goal.disjuncts _ answer.atoms right.goal.disjuncts answer.disjunct_is in
         let true_at : AllByRecursion (AtomTrue i (map (slice_index e) xs)) answer.atoms
-        = every_both (λ atom b stands. atom_true i (task.goal.universals + task.goal.existentials) constants xs e long
-        (every_append (λ x. x < length e) (parameters task) args h.parameters_known known) h.named atom b
+        = each_both (λ atom b stands. atom_true i (task.goal.universals + task.goal.existentials) constants xs e long
+        (each_append (λ x. x < length e) (parameters task) args h.parameters_known known) h.named atom b
         (standing_true i e (atom_at xs atom) context h.lines stands)) answer.atoms below answer.stand in
         record {
           existentials = values;
           values = record {
             length_is = length-map args (slice_index e) ∙ answer.args_known.length_is;
-            are = every_mapped {P = λ x. x < length e} {Q = λ x. x < length e} i.element (slice_index e) (λ x b _. every_index i.element e x b h.elements) args known known;
+            are = each_mapped {P = λ x. x < length e} {Q = λ x. x < length e} i.element (slice_index e) (λ x b _. each_index i.element e x b h.elements) args known known;
           };
           holds = some_at (AllByRecursion (AtomTrue i (us ++ values))) task.goal.disjuncts _ answer.atoms answer.disjunct_is (rw reads at true_at);
         }
@@ -133,7 +133,7 @@ module _ (i : Interpretation) (constants : ℕ) (task : Task) (right : IsTask co
       end_true (As disjunct args) context e h closes = answer_true context e disjunct args h closes
       end_true Efq context e h closes = absurd (some_with (falsum_false e) context.lines h.lines closes)
       end_true (Cs' line _ branches) context e h closes =
-          each_true branches closes.0 context e h (every_get (LineTrue i e) context.lines line (Cases closes.0) h.lines closes.1) closes.2
+          each_true branches closes.0 context e h (each_get (LineTrue i e) context.lines line (Cases closes.0) h.lines closes.1) closes.2
 
       each_true : {n : _} (branches : Row_of-Body n) (lists : List (List Atom)) (context : Context) (e : List ℕ) → ContextTrue context e
           → SomeOf (AllByRecursion (FactTrue i e)) lists → EachProves task branches lists context → ConclusionTrue i task.goal us
@@ -153,7 +153,7 @@ module _ (i : Interpretation) (constants : ℕ) (task : Task) (right : IsTask co
 
     first_line : (e : List ℕ) → Named i constants e → AllByRecursion (λ p. p < length e) (parameters task) → map (slice_index e) (parameters task) ≡ us
         → LineTrue i e (Facts (map (atom_at (parameters task)) task.goal.premises))
-    first_line e named known reads = every_mapped (FactTrue i e) (atom_at (parameters task))
+    first_line e named known reads = each_mapped (FactTrue i e) (atom_at (parameters task))
         (λ atom below holds. fact_true i task.goal.universals constants (parameters task) e
         (counted_length (task.start - task.goal.universals) task.goal.universals) known named atom below holds)
         task.goal.premises right.goal.premises (rw reads premises)
@@ -169,7 +169,7 @@ module _ (i : Interpretation) (constants : ℕ) (task : Task) (right : IsTask co
         = counted_read base us (task.start - task.goal.universals) task.goal.universals front given.length_is in
         record {
           length_is = omega arith;
-          elements = every_append i.element base us are given.are;
+          elements = each_append i.element base us are given.are;
           lines = (first_line (base ++ us) named known reads, tt);
           named = named;
           parameters_known = known;

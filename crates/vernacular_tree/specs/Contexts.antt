@@ -1,5 +1,5 @@
--- Tasks and contexts, and what a rule does to a context. Source: the 2014 paper "A Vernacular for Coherent
--- Logic". Elements and lines are numbered from 0.
+-- Tasks and contexts, and what a rule does to a context. Source: the 2014 paper "A Vernacular for
+-- Coherent Logic". Elements and lines are numbered from 0.
 use Rattle.std.specs.Prelude.{ℕ, zero, suc, ◌+◌, ◌-◌, List, [], ◌∷◌, ◌++◌, map, slice_index}
 use Rattle.text_core.specs.Lists.{SomeOf, IsAmong}
 use Rattle.logic_core.specs.declared.form.Slot.{Slot}
@@ -10,8 +10,9 @@ use Rattle.vernacular_tree.specs.declared.context.Line.{Line}
 use Rattle.vernacular_tree.specs.declared.context.Line.TheVariants.{Facts, Cases, Falsum}
 use Rattle.vernacular_tree.specs.declared.context.Context.{Context}
 
--- what is to be proved: the goal, from the forms. The start elements are the constants, then one element for
--- each universal variable of the goal, which are the parameters; or a single element where there is neither
+-- what is to be proved: the goal, from the forms. The start elements are the constants, then one
+-- element for each universal variable of the goal, which are the parameters; or a single element
+-- where there is neither
 pub record Task : Type 0 where
   pub forms : List Form
   pub goal : Form
@@ -32,7 +33,11 @@ slot_at elements (Variable i) = Constant (slice_index elements i)
 slot_at elements (Constant c) = Constant c
 
 abbrev pub atom_at : List ℕ → Atom → Atom
-atom_at elements atom = record { positive = atom.positive; symbol = atom.symbol; args = map (slot_at elements) atom.args }
+atom_at elements atom = record {
+  positive = atom.positive;
+  symbol = atom.symbol;
+  args = map (slot_at elements) atom.args;
+}
 
 -- the line of a list of disjuncts: falsehood of none, facts of one, cases of more
 abbrev pub line_of : List (List Atom) → Line
@@ -40,7 +45,8 @@ line_of [] = Falsum
 line_of (facts ∷ []) = Facts facts
 line_of (facts ∷ more ∷ rest) = Cases (facts ∷ more ∷ rest)
 
--- a fact stands in a context where some line of facts has it, with the same sign, symbol and elements
+-- a fact stands in a context where some line of facts has it, with the same sign, symbol and
+-- elements
 abbrev pub LineHas : Atom → Line → Type 0
 LineHas fact (Facts facts) = IsAmong fact facts
 LineHas fact (Cases lists) = ⊥
@@ -58,12 +64,16 @@ start_context task = record {
 
 -- the context with a further line of facts, as a case has it
 abbrev pub with_facts : Context → List Atom → Context
-with_facts context facts = record { elements = context.elements; lines = context.lines ++ Facts facts ∷ [] }
+with_facts context facts = record {
+  elements = context.elements;
+  lines = context.lines ++ Facts facts ∷ [];
+}
 
--- the context after a form was applied: a new element for each existential variable, and the line of the
--- form's disjuncts at the arguments and the new elements
+-- the context after a form was applied: a new element for each existential variable, and the line
+-- of the form's disjuncts at the arguments and the new elements
 abbrev pub after_mp : Context → Form → List ℕ → Context
 after_mp context form args = record {
   elements = context.elements + form.existentials;
-  lines = context.lines ++ line_of (map (map (atom_at (args ++ counted context.elements form.existentials))) form.disjuncts) ∷ [];
+  lines = context.lines ++ line_of (map
+      (map (atom_at (args ++ counted context.elements form.existentials))) form.disjuncts) ∷ [];
 }

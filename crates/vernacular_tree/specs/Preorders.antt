@@ -1,5 +1,5 @@
--- A proof as the list of its rule applications, each before those that it leads to, the branches of a split in
--- order; and which proofs a `Proof` may hold.
+-- A proof as the list of its rule applications, each before those that it leads to, the branches of
+-- a split in order; and which proofs a `Proof` may hold.
 use Rattle.std.specs.Prelude.{ℕ, ◌+◌, ◌≤◌, ◌≡◌, List, [], ◌∷◌, ◌++◌, map}
 use Rattle.text_core.specs.declared.limits.TheConstants.{MOST_APPLICATIONS, MOST_SPLITS}
 use Rattle.vernacular_tree.specs.Sizes.{size, nesting}
@@ -25,7 +25,8 @@ abbrev mutual
 
   pub branch_nodes : {n : _} → Row_of-Body n → List Node
   branch_nodes end_of-Body = []
-  branch_nodes (more_of-Body steps end rest) = (map mp_node steps ++ end_nodes end) ++ branch_nodes rest
+  branch_nodes (more_of-Body steps end rest) =
+      (map mp_node steps ++ end_nodes end) ++ branch_nodes rest
 
 -- the applications of a proof in preorder
 abbrev pub preorder : Body → List Node

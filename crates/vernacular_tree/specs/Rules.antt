@@ -1,5 +1,5 @@
--- What a proof is, by the four rules of the 2014 paper "A Vernacular for Coherent Logic": extended modus ponens,
--- case split, assumption, ex falso quodlibet.
+-- What a proof is, by the four rules of the 2014 paper "A Vernacular for Coherent Logic": extended
+-- modus ponens, case split, assumption, ex falso quodlibet.
 use Rattle.std.specs.Prelude.{ℕ, ◌<◌, ◌-◌, ◌≡◌, List, [], ◌∷◌, ◌++◌, length, slice_get, Some}
 use Rattle.std.specs.List.{AllByRecursion}
 use Rattle.text_core.specs.Lists.{SomeOf}
@@ -22,7 +22,8 @@ pub record IsInstance (context : Context) (form : Form) (args : List ℕ) : Type
   pub args_known : AreKnown context form.universals args
   pub premises : AllByRecursion (λ atom. Stands context (atom_at args atom)) form.premises
 
--- a disjunct of the goal, counted from 1, stands at the parameters and one element for each existential variable
+-- a disjunct of the goal, counted from 1, stands at the parameters and one element for each
+-- existential variable
 pub record IsAnswer (task : Task) (context : Context) (disjunct : ℕ) (args : List ℕ) : Type 0 where
   pub atoms : List Atom
   pub from_one : 0 < disjunct
@@ -42,13 +43,14 @@ module _ (task : Task) where
     pub Closes : End → Context → Type 0
     Closes (As disjunct args) context = IsAnswer task context disjunct args
     Closes Efq context = SomeOf (λ line. line ≡ Falsum) context.lines
-    Closes (Cs' line _ branches) context = (lists : List (List Atom)) × (slice_get context.lines line ≡ Some (Cases lists))
-        × EachProves branches lists context
+    Closes (Cs' line _ branches) context = (lists : List (List Atom))
+        × (slice_get context.lines line ≡ Some (Cases lists)) × EachProves branches lists context
 
     -- there are as many branches as lists, and each is a proof from the context with its list
     pub EachProves : {n : _} → Row_of-Body n → List (List Atom) → Context → Type 0
     EachProves end_of-Body lists context = lists ≡ []
-    EachProves (more_of-Body steps end rest) lists context = (facts : List Atom) × (more : List (List Atom)) × (lists ≡ facts ∷ more)
+    EachProves (more_of-Body steps end rest) lists context =
+        (facts : List Atom) × (more : List (List Atom)) × (lists ≡ facts ∷ more)
         × StepsThen steps (Closes end) (with_facts context facts) × EachProves rest more context
 
   -- a body is a proof from a context

@@ -19,7 +19,7 @@ abbrev pub size : Body → ℕ
 size body = length body.steps + end_size body.end
 
 abbrev mutual
-  -- how many splits stand around the deepest application
+  -- how many splits are around the deepest application
   pub end_nesting : End → ℕ
   end_nesting (As disjunct args) = 0
   end_nesting Efq = 0

@@ -1,5 +1,5 @@
--- Contexts that may stand inside a proof of a task, and the steps that add nothing to one which its own elements
--- do not give already.
+-- Contexts that may be inside a proof of a task, and the steps that add nothing to one which its
+-- own elements do not give already.
 use Rattle.std.specs.Prelude.{ℕ, ◌≤◌, List, ◌++◌}
 use Rattle.std.specs.List.{AllByRecursion}
 use Rattle.text_core.specs.Lists.{SomeOf}
@@ -22,8 +22,10 @@ pub record IsContext (task : Task) (context : Context) : Type 0 where
   pub start : task.start ≤ context.elements
   pub lines : AllByRecursion (LineIsBelow context.elements) context.lines
 
--- some disjunct of the form, at the arguments and some elements of the context, has all its atoms standing
+-- some disjunct of the form, at the arguments and some elements of the context, has all its atoms
+-- standing
 pub record Witnessed (context : Context) (form : Form) (args : List ℕ) : Type 0 where
   pub witnesses : List ℕ
   pub known : AreKnown context form.existentials witnesses
-  pub stand : SomeOf (AllByRecursion (λ atom. Stands context (atom_at (args ++ witnesses) atom))) form.disjuncts
+  pub stand : SomeOf (AllByRecursion (λ atom. Stands context (atom_at (args ++ witnesses) atom)))
+      form.disjuncts

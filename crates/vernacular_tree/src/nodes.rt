@@ -18,8 +18,8 @@ use thiserror::Error;
 /// Why a list of nodes gives no proof.
 #[derive(Debug, Drop, Error)]
 pub enum TreeRefusal {
-    /// The nodes are not the whole preorder of one tree with at most 65,536 rule applications and at most 200
-    /// splits around any of them.
+    /// The nodes are not the whole preorder of one tree with at most `MOST_APPLICATIONS` rule
+    /// applications and at most `MOST_SPLITS` splits around any of them.
     #[error("NotATree")]
     NotATree,
     /// Want of memory.
@@ -105,9 +105,12 @@ fn read_branches(
     count: u32,
     levels: u32,
 ) -> Result<(List<Body>, &[Node]), TreeRefusal>
-    ensures ok { IfOk result (λ r. (nodes.now ≡ flat_map preorder r.0 ++ r.1.now) × (length r.0 ≡ count) × AreShallow levels r.0) }
-    ensures refused { IsErrOf result TreeRefusal.NotATree → (bodies : Lst BodyValue) (rest : Lst NodeValue)
-        → nodes.now ≡ flat_map preorder bodies ++ rest → length bodies ≡ count → AreShallow levels bodies → ⊥ }
+    ensures ok { IfOk result (λ r. (nodes.now ≡ flat_map preorder r.0 ++ r.1.now)
+        × (length r.0 ≡ count) × AreShallow levels r.0) }
+    ensures refused { IsErrOf result TreeRefusal.NotATree
+        → (bodies : Lst BodyValue) (rest : Lst NodeValue)
+        → nodes.now ≡ flat_map preorder bodies ++ rest
+        → length bodies ≡ count → AreShallow levels bodies → ⊥ }
 {
     let mut branches = List::new(alloc);
     let mut rest = nodes;
@@ -119,11 +122,14 @@ fn read_branches(
     Ok((branches, rest))
 }
 
-/// The end at the front of the nodes, with at most so many splits around its deepest application, and the rest.
+/// The end at the front of the nodes, with at most so many splits around its deepest application,
+/// and the rest.
 #[cycle(read)]
 fn read_end(alloc: Global, nodes: &[Node], levels: u32) -> Result<(End, &[Node]), TreeRefusal>
-    ensures ok { IfOk result (λ r. (nodes.now ≡ end_nodes r.0 ++ r.1.now) × (end_nesting r.0 ≤ levels)) }
-    ensures refused { IsErrOf result TreeRefusal.NotATree → (end : EndValue) (rest : Lst NodeValue)
+    ensures ok { IfOk result (λ r. (nodes.now ≡ end_nodes r.0 ++ r.1.now)
+        × (end_nesting r.0 ≤ levels)) }
+    ensures refused { IsErrOf result TreeRefusal.NotATree
+        → (end : EndValue) (rest : Lst NodeValue)
         → nodes.now ≡ end_nodes end ++ rest → end_nesting end ≤ levels → ⊥ }
 {
     let Some((first, rest)) = nodes.split_first() else {
@@ -158,7 +164,8 @@ fn read_end(alloc: Global, nodes: &[Node], levels: u32) -> Result<(End, &[Node])
     }
 }
 
-/// The body at the front of the nodes, with at most so many splits around its deepest application, and the rest.
+/// The body at the front of the nodes, with at most so many splits around its deepest application,
+/// and the rest.
 #[cycle(read)]
 pub(crate) fn read_body(
     alloc: Global,
@@ -166,7 +173,8 @@ pub(crate) fn read_body(
     levels: u32,
 ) -> Result<(Body, &[Node]), TreeRefusal>
     ensures ok { IfOk result (λ r. (nodes.now ≡ preorder r.0 ++ r.1.now) × (nesting r.0 ≤ levels)) }
-    ensures refused { IsErrOf result TreeRefusal.NotATree → (body : BodyValue) (rest : Lst NodeValue)
+    ensures refused { IsErrOf result TreeRefusal.NotATree
+        → (body : BodyValue) (rest : Lst NodeValue)
         → nodes.now ≡ preorder body ++ rest → nesting body ≤ levels → ⊥ }
 {
     let (steps, rest) = read_steps(alloc, nodes)?;

@@ -12,8 +12,8 @@ use std::alloc::Global;
 use std::marker::Model;
 use text_core::{MOST_APPLICATIONS, MOST_SPLITS};
 
-/// A proof: one body with at most 65,536 rule applications, and at most 200 splits around any of them, so that
-/// recursion over it stays shallow. Contracts see the body.
+/// A proof: one body with at most `MOST_APPLICATIONS` rule applications, and at most `MOST_SPLITS`
+/// splits around any of them, so that recursion over it stays shallow. Contracts see the body.
 #[derive(Debug, Drop)]
 pub struct Proof {
     body: Body,
@@ -52,8 +52,8 @@ fn count_applications(body: &Body) -> usize
 }
 
 impl Proof {
-    /// The proof with this body, which has at most 65,536 rule applications and at most 200 splits around any of
-    /// them. It takes no memory.
+    /// The proof with this body, which has at most `MOST_APPLICATIONS` rule applications and at
+    /// most `MOST_SPLITS` splits around any of them. It takes no memory.
     pub fn new(body: Body) -> Proof
         requires { IsBounded body }
         ensures { result ≡ body }
@@ -96,9 +96,10 @@ impl Proof {
         Ok(nodes)
     }
 
-    /// The proof whose rule applications in preorder are the nodes. `NotATree` exactly where the nodes are not the
-    /// whole preorder of one tree with at most 65,536 rule applications and at most 200 splits around any of them;
-    /// `Memory` is want of memory.
+    /// The proof whose rule applications in preorder are the nodes. `NotATree` exactly where the
+    /// nodes are not the whole preorder of one tree with at most `MOST_APPLICATIONS` rule
+    /// applications and at most `MOST_SPLITS` splits around any of them; `Memory` is want of
+    /// memory.
     pub fn from_nodes(alloc: Global, nodes: &List<Node>) -> Result<Proof, TreeRefusal>
         ensures ok { IfOk result (λ proof. preorder proof ≡ nodes.now) }
         ensures bounded { IfOk result IsBounded }

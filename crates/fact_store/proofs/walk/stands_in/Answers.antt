@@ -11,14 +11,14 @@ loop-at-init c =
     (c.newest-at.ensures ∙ ap (λ k. latest k c.args.buckets.now.keys) (c.bucket.ensures.value ∙ ap (λ w. bucket_of w (record { signed = c.args.signed; args = c.args.sought.now })) c.width.ensures))
 
 pub is_entry_of-requires : goal.is_entry_of-requires
-is_entry_of-requires c = laid_at 0 _ _ c.requires.laid c.in-Some.place _ (c.loop-at.invariant.there c.in-Some.place c.in-Some.is)
+is_entry_of-requires c = laid_at 0 _ _ c.requires.laid c.in-Some.number _ (c.loop-at.invariant.there c.in-Some.number c.in-Some.is)
 
 pub returns-then-is_entry_of : goal.returns-then-is_entry_of
-returns-then-is_entry_of c = sym (walk_found _ _ _ _ _ _ c.requires.keys _ c.in-Some.place _ c.in-Some.is c.loop-at.invariant (sym c.is_entry_of.ensures ∙ c.if-is_entry_of.true))
+returns-then-is_entry_of c = sym (walk_found _ _ _ _ _ _ c.requires.keys _ c.in-Some.number _ c.in-Some.is c.loop-at.invariant (sym c.is_entry_of.ensures ∙ c.if-is_entry_of.true))
 
 pub loop-at-smaller : goal.loop-at-smaller
-loop-at-smaller c = walk_falls _ _ _ _ _ _ c.requires.keys _ c.in-Some.place (record { signed = 0; start = 0; count = 0 }) c.in-Some.is c.loop-at.invariant _ c.older-at.ensures
+loop-at-smaller c = walk_falls _ _ _ _ _ _ c.requires.keys _ c.in-Some.number (record { signed = 0; start = 0; count = 0 }) c.in-Some.is c.loop-at.invariant _ c.older-at.ensures
 
 pub loop-at-preserved : goal.loop-at-preserved
 loop-at-preserved c =
-    walk_on _ _ _ _ _ _ c.requires.keys _ c.in-Some.place _ c.in-Some.is c.loop-at.invariant _ c.older-at.ensures (sym c.is_entry_of.ensures ∙ c.if-is_entry_of.false)
+    walk_on _ _ _ _ _ _ c.requires.keys _ c.in-Some.number _ c.in-Some.is c.loop-at.invariant _ c.older-at.ensures (sym c.is_entry_of.ensures ∙ c.if-is_entry_of.false)

@@ -59,7 +59,7 @@ walk_items-loop-item-preserved-in_default g t c =
       underway = formula_on (g.F.Files.known c.args.files.now) (g.F.Files.known at.files) c.args.left (selections_of c.args.selected.now) c.args.file c.args.items
           c.args.walked.now at.walked (into_iter_items at.item-iterator) (into_iter_items c.next.new.self) c.in-Some.item steps at.invariant.underway
           c.in-Fof.fof c.keep_selected.new.walked c.in-Fof.is c.in_default.ensures.passes;
-      may_stand = (rw steps at at.invariant.may_stand).1;
+      allowed = (rw steps at at.invariant.allowed).1;
       len = let was = at.invariant.len in let gone = c.in-Some.ensures.steps.1 in let short = ap length steps in omega arith;
       file = at.invariant.file;
     }
@@ -73,7 +73,7 @@ walk_items-loop-item-preserved g t c =
           c.args.walked.now at.walked (into_iter_items at.item-iterator) (into_iter_items c.next.new.self) c.in-Some.item steps at.invariant.underway
           c.in-Include.name c.in-Include.only (g.F.Files.known c.walk_inclusion.new.files) c.in-Include.is c.walk_inclusion.new.walked
           c.in_ok-walk_inclusion-in-Include.ensures.passes;
-      may_stand = (rw steps at at.invariant.may_stand).1;
+      allowed = (rw steps at at.invariant.allowed).1;
       len = let was = at.invariant.len in let gone = c.in-Some.ensures.steps.1 in let short = ap length steps in omega arith;
       file = at.invariant.file;
     }

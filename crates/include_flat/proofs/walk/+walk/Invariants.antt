@@ -1,7 +1,7 @@
 use Rattle.std.proofs.Common.{◌+◌, ◌*◌, ◌≡◌, length}
 use Rattle.std.specs.List.{AllByRecursion}
 use Rattle.std.specs.Vec.Iter.{into_iter_items, into_iter_len}
-use Rattle.logic_core.specs.Problems.{ItemMayStand}
+use Rattle.logic_core.specs.Allowed.{ItemIsAllowed}
 use Rattle.include_flat.specs.Progress.{selections_of}
 use Rattle.include_flat.proofs.Passing.{Underway}
 use Rattle.include_flat.proofs.walk.+walk.Given as goal
@@ -19,7 +19,7 @@ abbrev pub invariant-walk_items-loop-item : goal.invariant-walk_items-loop-item
 invariant-walk_items-loop-item g l = record {
   underway : Underway (g.F.Files.known l.fn.files) (g.F.Files.known l.files)
       l.fn.left (selections_of l.fn.selected) l.fn.file l.fn.items (into_iter_items l.item-iterator) l.fn.walked l.walked;
-  may_stand : AllByRecursion ItemMayStand (into_iter_items l.item-iterator);
+  allowed : AllByRecursion ItemIsAllowed (into_iter_items l.item-iterator);
   len : into_iter_len l.item-iterator ≡ length (into_iter_items l.item-iterator);
   file : l.file ≡ l.fn.file;
 }

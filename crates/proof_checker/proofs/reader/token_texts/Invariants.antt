@@ -1,5 +1,5 @@
 use Rattle.std.proofs.Common.{◌≡◌, take}
-use Rattle.tptp_lexer.specs.Tokens.{texts_of}
+use Rattle.tptp_lexer.specs.Columns.{texts_of}
 use Rattle.proof_checker.proofs.reader.token_texts.Given as goal
 
 -- the texts so far are the first ones

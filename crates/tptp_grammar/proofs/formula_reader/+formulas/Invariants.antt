@@ -17,7 +17,7 @@ decreases-more_units l = 4 * l.depth + 2
 abbrev pub decreases-formula : goal.decreases-formula
 decreases-formula l = 4 * l.depth + 3
 
--- the units so far stand in front of those that are left
+-- the units so far are in front of those that are left
 abbrev pub invariant-more_units-loop : goal.invariant-more_units-loop
-invariant-more_units-loop l = with_front l.units (more_from (unit_at l.depth) l.mark (l.count - l.counter) l.rest)
-    ≡ with_front (l.fn.first ∷ []) (more_from (unit_at l.depth) l.mark (length l.fn.cursor) l.fn.cursor)
+invariant-more_units-loop l = with_front l.units (more_from (unit_at l.depth) l.sign (l.count - l.counter) l.rest)
+    ≡ with_front (l.fn.first ∷ []) (more_from (unit_at l.depth) l.sign (length l.fn.cursor) l.fn.cursor)

@@ -1,6 +1,6 @@
 use Rattle.std.proofs.Common.{◌<◌, ◌≤◌, ◌≡◌, ◌+◌, ◌∷◌, [], ap, ◌∙◌, length, length-append, arith}
 use Rattle.std.proofs.lemmas.Result.{err_from_is_err_and}
-use Rattle.logic_core.specs.Problems.{ItemMayStand}
+use Rattle.logic_core.specs.Allowed.{ItemIsAllowed}
 use Rattle.text_core.specs.declared.limits.TheConstants.{MOST_LEVELS}
 use Rattle.tptp_grammar.proofs.ItemLoop.{item_left, one_read, gives_up, all_read, is_one}
 use Rattle.tptp_grammar.proofs.item_reader.read_text.Goals as goal
@@ -14,7 +14,7 @@ returns-in_err-item c =
 pub push-requires : goal.push-requires
 push-requires c =
     let some : 0 < length c.loop-rest.rest = omega arith in
-    is_one ItemMayStand MOST_LEVELS c.args.tokens.now.tokens c.loop-rest.items c.loop-rest.rest c.in_ok-item.tail c.in_ok-item.item c.requires.items some c.in_ok-item.ensures c.loop-rest.invariant c.requires.is_read c.requires.may_stand
+    is_one ItemIsAllowed MOST_LEVELS c.args.tokens.now.tokens c.loop-rest.items c.loop-rest.rest c.in_ok-item.tail c.in_ok-item.item c.requires.items some c.in_ok-item.ensures c.loop-rest.invariant c.requires.is_read c.requires.allowed
 
 pub loop-rest-smaller : goal.loop-rest-smaller
 loop-rest-smaller c =

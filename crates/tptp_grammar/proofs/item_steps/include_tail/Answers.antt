@@ -1,7 +1,7 @@
 use Rattle.std.proofs.Common.{refl}
 use Rattle.tptp_lexer.specs.declared.kind.Kind.TheVariants.{Comma}
 use Rattle.tptp_grammar.specs.declared.mark.Mark.TheVariants.{Other}
-use Rattle.tptp_grammar.specs.declared.symbol.Symbol.TheVariants.{IncludeTail}
+use Rattle.tptp_grammar.specs.declared.item_part.ItemPart.TheVariants.{IncludeTail}
 use Rattle.tptp_grammar.proofs.Expanding.{expanded}
 use Rattle.tptp_grammar.proofs.item_steps.include_tail.Goals as goal
 

@@ -2,7 +2,7 @@ use Rattle.std.proofs.Common.{length, ◌-◌}
 use Rattle.tptp_lexer.proofs.Scanned.{IsScanned}
 use Rattle.tptp_lexer.proofs.lexer.spans.Given as goal
 
--- the spans are what was read up to the place
+-- the spans are what was read up to the offset
 abbrev pub invariant-loop-spans : goal.invariant-loop-spans
 invariant-loop-spans l = IsScanned l.source l.spans l.at
 

@@ -3,7 +3,7 @@ use Rattle.tptp_lexer.specs.Scanning.{quote_end}
 use Rattle.tptp_lexer.proofs.Quotes.{told}
 use Rattle.tptp_lexer.proofs.quote.quote_end.Given as goal
 
--- the bytes from the place on end as all of them do
+-- the bytes from the offset on end as all of them do
 abbrev pub invariant-loop-at : goal.invariant-loop-at
 invariant-loop-at l = told l.quote l.bytes l.at ≡ quote_end l.quote l.bytes
 

@@ -11,7 +11,7 @@ invariant_of-self c =
     let room : c.self.inside.room ≡ c.args.self.now.room = ap (λ k. k.room) c.self.view_is in
     let head = c.index.ensures ∙ get_or_default c.self.inside.heads.items c.args.key _ None (omega arith) in
     let chained = AreChained-add _ _ _ c.args.key old.0 (omega arith) in
-    rw (c.len-place.ensures, c.self.inside.keys.ok.0, c.push_within.ensures.items, c.push_within-2.ensures.items, head) (
+    rw (c.len-number.ensures, c.self.inside.keys.ok.0, c.push_within.ensures.items, c.push_within-2.ensures.items, head) (
       chained,
       omega (arith, length-append c.self.inside.keys.items (c.args.key ∷ []), ap length keys),
       old.2,

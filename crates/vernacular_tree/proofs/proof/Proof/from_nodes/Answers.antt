@@ -2,8 +2,8 @@ use Rattle.std.proofs.Common.{◌≡◌, length, ◌<◌, arith, sym, ◌∙◌,
 use Rattle.vernacular_tree.proofs.Trees.{long_refused, rest_refused, whole_is}
 use Rattle.vernacular_tree.proofs.proof.Proof.from_nodes.Goals as goal
 
-pub returns-then-len-gt-MOST_APPLICATIONS-clause-not_a_tree : goal.returns-then-len-gt-MOST_APPLICATIONS-clause-not_a_tree
-returns-then-len-gt-MOST_APPLICATIONS-clause-not_a_tree c err = long_refused c.args.nodes.now (omega arith)
+pub returns-then-len-clause-not_a_tree : goal.returns-then-len-clause-not_a_tree
+returns-then-len-clause-not_a_tree c err = long_refused c.args.nodes.now (omega arith)
 
 pub returns-then-not-is_empty-clause-not_a_tree : goal.returns-then-not-is_empty-clause-not_a_tree
 returns-then-not-is_empty-clause-not_a_tree c err =

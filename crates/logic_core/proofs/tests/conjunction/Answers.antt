@@ -1,8 +1,0 @@
-use Rattle.std.proofs.Common.{arith}
-use Rattle.logic_core.specs.declared.formula.Formula.{Pred}
-use Rattle.logic_core.proofs.Built.{shallow_pair}
-use Rattle.logic_core.proofs.tests.conjunction.Goals as goal
-
-pub returns : goal.returns
-returns c = shallow_pair c.in_ok-variable_formula.field-0 (Pred c.in_ok-from_bytes.field-0 c.new.result) c.push-2.new.self
-    (rw (c.in_ok-push-2.ensures.ok, c.in_ok-push.ensures.ok, c.new-members.ensures)) (omega arith) (omega arith)

@@ -1,5 +1,0 @@
-use Rattle.tptp_grammar.proofs.ItemsOrRefusal.{items_or_refusal}
-use Rattle.tptp_grammar.proofs.laws.items_or_refusal.Goals as goal
-
-pub returns : goal.returns
-returns c = items_or_refusal

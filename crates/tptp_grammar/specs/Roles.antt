@@ -1,0 +1,27 @@
+-- The roles of formulas and the words that tell them. Source: the TPTP syntax, FOF.
+use Rattle.std.specs.Prelude.{List, [], ◌∷◌, find, Option, codes}
+use Rattle.std.specs.Str.{bytes_eq}
+use Rattle.text_core.specs.Names.{Text}
+use Rattle.logic_core.specs.declared.problem.Role.{Role}
+use Rattle.logic_core.specs.declared.problem.Role.TheVariants.{Axiom, Hypothesis, Definition, Assumption, Lemma, Theorem, Corollary, NegatedConjecture, Conjecture}
+
+-- the word that tells a role
+abbrev pub role_text : Role → Text
+role_text Axiom = codes "axiom"
+role_text Hypothesis = codes "hypothesis"
+role_text Definition = codes "definition"
+role_text Assumption = codes "assumption"
+role_text Lemma = codes "lemma"
+role_text Theorem = codes "theorem"
+role_text Corollary = codes "corollary"
+role_text NegatedConjecture = codes "negated_conjecture"
+role_text Conjecture = codes "conjecture"
+
+-- the nine roles
+abbrev pub roles : List Role
+roles = Axiom ∷ Hypothesis ∷ Definition ∷ Assumption ∷ Lemma ∷ Theorem ∷ Corollary ∷
+    NegatedConjecture ∷ Conjecture ∷ []
+
+-- the role that a word tells
+unfoldable pub role_of : Text → Option Role
+role_of text = find (λ role. bytes_eq text (role_text role)) roles

@@ -1,0 +1,112 @@
+ghost use Rattle.std.specs.Prelude.{◌≡◌, [], ◌∷◌, length};
+ghost use Rattle.logic_core.specs.declared.formula.Term.TheVariants.{Variable, Constant};
+ghost use Rattle.tptp_lexer.specs.declared.kind.Kind.TheVariants as kind;
+ghost use Rattle.tptp_grammar.specs.Reading.{Gives, with_front, more_from, listed_from, term_from, equation_from, atom_from};
+
+use crate::name_reader::{NotRead, behind, skip};
+use logic_core::{Boxed, Formula, List, Name, Term};
+use std::alloc::Global;
+use tptp_lexer::{Cursor, Kind};
+
+/// A term.
+#[tactic(auto, unfolding(crate::specs::Reading::term_from))]
+pub(crate) fn term<'t, 'a>(
+    alloc: Global,
+    cursor: &Cursor<'t, 'a>,
+) -> Result<(Term, Cursor<'t, 'a>), NotRead>
+    ensures { Gives (λ read. read) result (term_from cursor.now) }
+{
+    let Some((token, rest)) = cursor.next() else {
+        return Err(NotRead::NoText);
+    };
+    match token.kind() {
+        Kind::Upper => Ok((Term::Variable(token.name(alloc)?), rest)),
+        Kind::Lower | Kind::Quoted => Ok((Term::Constant(token.name(alloc)?), rest)),
+        _ => Err(NotRead::NoText),
+    }
+}
+
+/// A term in front of further ones, each behind a comma.
+#[tactic(auto, using(crate::proofs::ReaderSteps::further))]
+fn more_terms<'t, 'a>(
+    alloc: Global,
+    first: Term,
+    cursor: Cursor<'t, 'a>,
+) -> Result<(List<Term>, Cursor<'t, 'a>), NotRead>
+    ensures { Gives (λ read. read) result (with_front (first ∷ []) (more_from term_from kind.Comma (length cursor.entry) cursor.entry)) }
+{
+    let mut terms = List::new(alloc);
+    terms.push(first)?;
+    let count = cursor.len();
+    let mut rest = cursor;
+    for _ in 0..count {
+        let Some(after) = behind(&rest, Kind::Comma) else {
+            return Ok((terms, rest));
+        };
+        let (next, tail) = term(alloc, &after)?;
+        terms.push(next)?;
+        rest = tail;
+    }
+    Ok((terms, rest))
+}
+
+/// The arguments of an atom behind the opening bracket.
+fn arguments<'t, 'a>(
+    alloc: Global,
+    cursor: &Cursor<'t, 'a>,
+) -> Result<(List<Term>, Cursor<'t, 'a>), NotRead>
+    ensures { Gives (λ read. read) result (listed_from term_from kind.CloseParenthesis cursor.now) }
+{
+    let (first, rest) = term(alloc, cursor)?;
+    let (terms, rest) = more_terms(alloc, first, rest)?;
+    let rest = skip(&rest, Kind::CloseParenthesis)?;
+    Ok((terms, rest))
+}
+
+/// An equation, or an inequality, behind its left side.
+#[tactic(auto, unfolding(crate::specs::Reading::equation_from))]
+pub(crate) fn equation<'t, 'a>(
+    alloc: Global,
+    left: Term,
+    cursor: &Cursor<'t, 'a>,
+) -> Result<(Formula, Cursor<'t, 'a>), NotRead>
+    ensures { Gives (λ read. read) result (equation_from left cursor.now) }
+{
+    let Some((token, rest)) = cursor.next() else {
+        return Err(NotRead::NoText);
+    };
+    match token.kind() {
+        Kind::Equal => {
+            let (right, rest) = term(alloc, &rest)?;
+            Ok((Formula::Equal(left, right), rest))
+        }
+        Kind::NotEqual => {
+            let (right, rest) = term(alloc, &rest)?;
+            let equal = Formula::Equal(left, right);
+            Ok((Formula::Not(Boxed::new(alloc, equal)?), rest))
+        }
+        _ => Err(NotRead::NoText),
+    }
+}
+
+/// An atom behind its first word.
+#[tactic(auto, unfolding(crate::specs::Reading::atom_from))]
+pub(crate) fn atom<'t, 'a>(
+    alloc: Global,
+    name: Name,
+    cursor: Cursor<'t, 'a>,
+) -> Result<(Formula, Cursor<'t, 'a>), NotRead>
+    ensures { Gives (λ read. read) result (atom_from name cursor.entry) }
+{
+    let Some((token, rest)) = cursor.next() else {
+        return Ok((Formula::Pred(name, List::new(alloc)), cursor));
+    };
+    match token.kind() {
+        Kind::OpenParenthesis => {
+            let (terms, rest) = arguments(alloc, &rest)?;
+            Ok((Formula::Pred(name, terms), rest))
+        }
+        Kind::Equal | Kind::NotEqual => equation(alloc, Term::Constant(name), &cursor),
+        _ => Ok((Formula::Pred(name, List::new(alloc)), cursor)),
+    }
+}

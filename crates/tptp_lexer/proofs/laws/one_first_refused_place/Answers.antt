@@ -1,5 +1,0 @@
-use Rattle.tptp_lexer.proofs.Exact.{one_fault}
-use Rattle.tptp_lexer.proofs.laws.one_first_refused_place.Goals as goal
-
-pub returns : goal.returns
-returns c = one_fault

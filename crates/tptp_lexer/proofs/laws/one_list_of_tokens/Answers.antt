@@ -1,5 +1,0 @@
-use Rattle.tptp_lexer.proofs.Exact.{one_list}
-use Rattle.tptp_lexer.proofs.laws.one_list_of_tokens.Goals as goal
-
-pub returns : goal.returns
-returns c = one_list

@@ -1,5 +1,0 @@
-use Rattle.tptp_lexer.proofs.Order
-use Rattle.tptp_lexer.proofs.laws.tokens_in_order.Goals as goal
-
-pub returns : goal.returns
-returns c = Order.tokens_in_order
