@@ -9,7 +9,8 @@ use logic_core::Bytes;
 pub enum Command {
     /// `check PROBLEM PROOF`: whether the proof is accepted as a proof of the problem.
     Check,
-    /// `convert problem PROBLEM`: the problem with the files that it includes, in its canonical text.
+    /// `convert problem PROBLEM`: the problem with the files that it includes, in its canonical
+    /// text.
     ConvertProblem,
 }
 

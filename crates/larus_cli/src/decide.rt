@@ -88,7 +88,8 @@ fn refused(alloc: Global, name: &[u8], why: ProofWhy) -> Result<Report, Memory>
 
 /// The bytes of the second file. Before it the problem was read.
 fn read_second<F: Files>(alloc: Global, files: &mut F, name: &[u8]) -> Result<Bytes, Halt>
-    ensures holds { IfOk result (λ bytes. Holds (F.known files.old) name.now bytes MOST_FILE_BYTES) }
+    ensures holds { IfOk result (λ bytes. Holds
+        (F.known files.old) name.now bytes MOST_FILE_BYTES) }
     ensures halts { (words : Lst Text) (before : Known) (problem : Text) (formulas : Lst Ground)
         → Grows before (F.known files.old) → NamesBoth words problem name.now
         → ReadsGround before problem formulas → IfErr result (Halts words before (F.known files.new)) }
