@@ -1,16 +1,10 @@
--- The answers with status 0, which go to the output, and what follows from them.
-use Rattle.std.specs.Prelude.{ℕ, ◌≡◌, List, IfSome, map}
+-- The answers with status 0, which go to the output.
+use Rattle.std.specs.Prelude.{ℕ, ◌≡◌, List, IfSome}
 use Rattle.text_core.specs.declared.limits.TheConstants.{MOST_FILE_BYTES}
 use Rattle.text_core.specs.Names.{Text}
-use Rattle.logic_core.specs.Truth.{Structure}
-use Rattle.logic_core.specs.Problems.{Follows}
 use Rattle.logic_core.specs.declared.problem.Fof.{Fof}
-use Rattle.logic_core.specs.declared.problem.Item.TheVariants.{Fof as ItemFof}
 use Rattle.io_core.specs.Known.{Known}
 use Rattle.io_core.specs.Fetched.{Holds}
-use Rattle.io_core.specs.Stream.{Stream, Puts}
-use Rattle.tptp_lexer.specs.Tokens.{Token, AreTokens}
-use Rattle.tptp_grammar.specs.Texts.{AreItemsOf}
 use Rattle.tptp_printer.specs.Canonical.{problem_text}
 use Rattle.include_flat.specs.Flattened.{IsFlat}
 use Rattle.proof_checker.specs.declared.ground.GroundFormula.{GroundFormula}
@@ -18,6 +12,7 @@ use Rattle.proof_checker.specs.Ground.{IsGroundProblem}
 use Rattle.proof_checker.specs.Accepted.{AcceptsWith}
 use Rattle.larus_cli.specs.Texts.{accepted_text}
 use Rattle.larus_cli.specs.Words.{check_words, convert_words}
+use Rattle.larus_cli.specs.Follows.{ReadsBack}
 
 -- the problem in this file, with the files that it includes, is flat with these formulas, where the
 -- files tell what they hold
@@ -30,11 +25,7 @@ pub record ReadsGround (files : Known) (name : Text) (formulas : List GroundForm
   pub reads : ReadsProblem files name flat
   pub are : IsGroundProblem flat formulas
 
--- the text has tokens, which are a text of these formulas
-abbrev pub ReadsBack : Text → List Fof → Type 0
-ReadsBack text formulas =
-    (ts : List Token) × AreTokens text ts × AreItemsOf ts (map ItemFof formulas)
-
+-- the text is what is printed, with status 0, for words that ask for it
 pub data Done (words : List Text) (files : Known) : Text → Type 0 where
   -- the proof is accepted as a proof of the problem, with so many rule applications
   accepted : (problem proof bytes : Text) (formulas : List GroundFormula) (size : ℕ) →
@@ -45,14 +36,3 @@ pub data Done (words : List Text) (files : Known) : Text → Type 0 where
   converted : (problem text : Text) (formulas : List Fof) → words ≡ convert_words problem →
       ReadsProblem files problem formulas → text ≡ problem_text formulas → ReadsBack text formulas →
       Done words files text
-
--- the problem follows in a structure: if its premises are true there, its conjecture is
-abbrev pub ProblemFollows : Structure → Known → Text → Type 0
-ProblemFollows s files problem = IfSome files.held (λ held.
-    (formulas : List Fof) × IsFlat held problem formulas × Follows s formulas)
-
--- what was put is a text that reads back as the formulas of the problem
-abbrev pub ProblemPrinted : Known → Text → Stream → Stream → Type 0
-ProblemPrinted files problem old new = IfSome files.held (λ held.
-    (formulas : List Fof) × IsFlat held problem formulas ×
-    ((text : Text) × Puts old new text × ReadsBack text formulas))

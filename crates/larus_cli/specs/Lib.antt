@@ -1,5 +1,6 @@
 pub mod Words
 pub mod Texts
+pub mod Follows
 pub mod Done
 pub mod Answers
 pub mod Reports

@@ -6,7 +6,7 @@ ghost use Rattle.io_core.specs.Causes.{Rose};
 ghost use Rattle.io_core.specs.Fetched.{Grows};
 ghost use Rattle.io_core.specs.Stream.{Puts, Breaks};
 ghost use Rattle.larus_cli.specs.Words.{command_of};
-ghost use Rattle.larus_cli.specs.Done.{ProblemFollows, ProblemPrinted};
+ghost use Rattle.larus_cli.specs.Follows.{ProblemFollows, ProblemPrinted};
 ghost use Rattle.larus_cli.specs.Outcome.{Outcome, sinks};
 
 use crate::command::read_words;

@@ -3,7 +3,7 @@ use Rattle.std.specs.Prelude.{◌≢◌}
 use Rattle.std.proofs.Common.{◌≡◌, ◌⊎◌, ◌+◌, inl, inr, ℕ, suc, List, [], ◌∷◌, length, Ok, Err, ap, sym, subst, ◌∙◌, arith}
 use Rattle.text_core.specs.Names.{Text}
 use Rattle.logic_core.specs.declared.problem.Fof.{Fof}
-use Rattle.tptp_lexer.specs.Tokens.{texts_of}
+use Rattle.tptp_lexer.specs.Columns.{texts_of}
 use Rattle.tptp_lexer.proofs.Exact as lexer
 use Rattle.vernacular_tree.specs.declared.tree.Mp.{Mp}
 use Rattle.vernacular_tree.specs.declared.tree.Body.{Body}
