@@ -17,7 +17,8 @@ use Rattle.include_flat.specs.Walks.Entry.{fetched, missing, stop}
 use Rattle.include_flat.specs.Walks.WalksFile.{not_held, too_long, read}
 use Rattle.include_flat.specs.Walks.WalksBytes.{no_tokens, no_items}
 use Rattle.include_flat.specs.Refusals.{AsksFor, TellsMemoryAlone}
-use Rattle.io_core.specs.Known.{Known, Stays, Fails, Holds, IsLong, IsTooLong}
+use Rattle.io_core.specs.Known.{Known}
+use Rattle.io_core.specs.Fetched.{Stays, Fails, Holds, IsLong, IsTooLong}
 use Rattle.io_core.specs.declared.files.FetchFault.{FetchFault}
 use Rattle.io_core.specs.declared.files.FetchFault.TheVariants as fetch
 use Rattle.tptp_lexer.specs.declared.refusal.LexRefusal.TheVariants as lex

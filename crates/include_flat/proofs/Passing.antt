@@ -16,7 +16,8 @@ use Rattle.include_flat.specs.Walks.WalksFile.{too_deep, read}
 use Rattle.include_flat.specs.Walks.WalksBytes.{with_items}
 use Rattle.include_flat.specs.Walks.WalksItems.{end, formula, inclusion}
 use Rattle.include_flat.specs.Flattened.{decision_after, is_refused, kept_of}
-use Rattle.io_core.specs.Known.{Known, Stays}
+use Rattle.io_core.specs.Known.{Known}
+use Rattle.io_core.specs.Fetched.{Stays}
 use Rattle.include_flat.specs.Opened.{Leaves}
 use Rattle.include_flat.specs.Progress.{bytes_of, decided, Passes, AsksAt, Refuses, over_file, over_items, PassesPart, PassesOver, RefusesOver, OpensTo, Opens, refused_file, Refused, IsTooMany}
 use Rattle.io_core.proofs.Laws.{stays_same, stays_on}

@@ -12,7 +12,8 @@ use Rattle.tptp_lexer.specs.Tokens.{Token, AreTokens}
 use Rattle.tptp_lexer.specs.Refused.{LexFault}
 use Rattle.tptp_lexer.proofs.Laws.{some_answer}
 use Rattle.tptp_grammar.specs.declared.refusal.SyntaxRefusal.{SyntaxRefusal}
-use Rattle.tptp_grammar.specs.Texts.{AreItemsOf, SyntaxFault}
+use Rattle.tptp_grammar.specs.Spells.{AreItemsOf}
+use Rattle.tptp_grammar.specs.Texts.{SyntaxFault}
 use Rattle.tptp_grammar.proofs.Laws.{items_or_refusal}
 use Rattle.include_flat.specs.declared.refusal.FlatWhy.TheVariants.{Lex, Syntax, FileTooLong, IncludeDepth}
 use Rattle.include_flat.specs.Walks.{Entry, Selections, WalksFile, WalksBytes, WalksItems, kept_entries, with_selection}

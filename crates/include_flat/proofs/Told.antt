@@ -3,7 +3,8 @@ use Rattle.std.proofs.Common.{◌≡◌, Option, Some, None, refl, subst}
 use Rattle.std.specs.Prelude.{Result, Ok, Err, IfSome, IfOk, IfErr}
 use Rattle.text_core.specs.Names.{Text}
 use Rattle.io_core.specs.Held.{Held}
-use Rattle.io_core.specs.Known.{Known, Stays}
+use Rattle.io_core.specs.Known.{Known}
+use Rattle.io_core.specs.Fetched.{Stays}
 use Rattle.io_core.proofs.Laws.{stays_on, fails_on}
 use Rattle.include_flat.specs.declared.refusal.FlatWhy.{FlatWhy}
 use Rattle.include_flat.specs.declared.refusal.FlatWhy.TheVariants.{Lex, Syntax, FileFault, FileTooLong, AllTooLong, IncludeDepth, TooManyFormulas, Memory}

@@ -2,7 +2,8 @@
 use Rattle.std.specs.Prelude.{List}
 use Rattle.text_core.specs.Names.{Text}
 use Rattle.logic_core.specs.declared.problem.Item.{Item}
-use Rattle.io_core.specs.Known.{Known, Stays, Fails}
+use Rattle.io_core.specs.Known.{Known}
+use Rattle.io_core.specs.Fetched.{Stays, Fails}
 use Rattle.io_core.specs.declared.files.FetchFault.{FetchFault}
 use Rattle.io_core.specs.declared.files.FetchFault.TheVariants as fetch
 use Rattle.tptp_lexer.specs.declared.refusal.LexRefusal.{LexRefusal}

@@ -6,7 +6,8 @@ use Rattle.text_core.specs.Names.{Text}
 use Rattle.logic_core.specs.declared.problem.Fof.{Fof}
 use Rattle.logic_core.specs.declared.problem.Item.{Item}
 use Rattle.io_core.specs.Held.{Held}
-use Rattle.io_core.specs.Known.{Known, Stays}
+use Rattle.io_core.specs.Known.{Known}
+use Rattle.io_core.specs.Fetched.{Stays}
 use Rattle.include_flat.specs.declared.refusal.FlatWhy.{FlatWhy}
 use Rattle.include_flat.specs.declared.refusal.FlatWhy.TheVariants.{FileFault, TooManyFormulas, Memory}
 use Rattle.include_flat.specs.declared.walked.Walked.{Walked}

@@ -1,7 +1,7 @@
 ghost use Rattle.std.specs.Prelude.{◌≡◌, ◌≤◌, ◌⊎◌, List as Lst, IfSome, IfOk, IfErr, OnOk, MatchResult};
 ghost use Rattle.text_core.specs.Names.{Text};
 ghost use Rattle.logic_core.specs.declared.problem.Fof.{Fof as Formula};
-ghost use Rattle.io_core.specs.Known.{Stays, Fails};
+ghost use Rattle.io_core.specs.Fetched.{Stays, Fails};
 ghost use Rattle.include_flat.specs.declared.refusal.FlatWhy.{FlatWhy as Why};
 ghost use Rattle.include_flat.specs.declared.refusal.FlatWhy.TheVariants as whys;
 ghost use Rattle.logic_core.specs.Allowed.{FofIsAllowed};

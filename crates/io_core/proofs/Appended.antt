@@ -2,7 +2,7 @@
 use Rattle.std.proofs.Common.{ℕ, ◌≡◌, ◌+◌, ◌≤◌, List, ◌++◌, length, take, drop, sym, ap, ◌∙◌, take-append-drop, length-drop, arith}
 use Rattle.text_core.specs.Names.{Text}
 use Rattle.io_core.specs.Adapters.{Counts, counts_known}
-use Rattle.io_core.specs.Known.{Fetches}
+use Rattle.io_core.specs.Fetched.{Fetches}
 
 -- a list that keeps its front grew by the rest
 append-drop : (old new : List ℕ) → take (length old) new ≡ old → new ≡ old ++ drop (length old) new

@@ -1,7 +1,8 @@
 -- Laws for the crates above: what is known of files from one fetch to the next.
 use Rattle.std.proofs.Common.{refl, ◌∙◌, arith}
 use Rattle.text_core.specs.Names.{Text}
-use Rattle.io_core.specs.Known.{Known, Grows, Stays, Fails}
+use Rattle.io_core.specs.Known.{Known}
+use Rattle.io_core.specs.Fetched.{Grows, Stays, Fails}
 
 -- with no fetch all stays
 pub stays_same : (files : Known) → Stays files files

@@ -1,5 +1,6 @@
 ghost use Rattle.std.specs.Prelude.{◌≡◌, IfOk, OnOk, OnErr, IsErrOf, is_some};
-ghost use Rattle.io_core.specs.Known.{Known, Stays, Fails, Holds, Fetches, IsTooLong};
+ghost use Rattle.io_core.specs.Known.{Known};
+ghost use Rattle.io_core.specs.Fetched.{Stays, Fails, Holds, Fetches, IsTooLong};
 
 use std::alloc::Global;
 use text_core::{Bytes, MOST_FILE_BYTES, Memory};

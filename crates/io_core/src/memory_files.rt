@@ -4,7 +4,7 @@ ghost use Rattle.std.specs.FinMap as finite;
 ghost use Rattle.io_core.specs.Causes.{raised};
 ghost use Rattle.io_core.specs.Entries.{held_by};
 ghost use Rattle.io_core.specs.InMemory.{found, given_after, stored_known};
-ghost use Rattle.io_core.specs.Known.{Fails, Fetches, IsTooLong, Stays};
+ghost use Rattle.io_core.specs.Fetched.{Fails, Fetches, IsTooLong, Stays};
 
 use crate::count::raised_by;
 use crate::files::{FetchFault, Files};

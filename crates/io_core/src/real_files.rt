@@ -1,7 +1,7 @@
 ghost use Rattle.std.specs.Prelude.{◌≡◌, ◌+◌, ◌-◌, ◌≤◌, ◌++◌, IfSome, IfOk, OnOk, OnErr, IsErrOf, IsUtf8, length, take, vec_len, refl};
 ghost use Rattle.io_core.specs.Adapters.{counts_known};
 ghost use Rattle.io_core.specs.Causes.{raised, RoseAbove};
-ghost use Rattle.io_core.specs.Known.{Fails, Fetches, IsTooLong, Stays};
+ghost use Rattle.io_core.specs.Fetched.{Fails, Fetches, IsTooLong, Stays};
 
 use crate::count::raised_by;
 use crate::files::{FetchFault, Files};

@@ -1,2 +1,3 @@
-pub mod Reports
+pub mod Saying
 pub mod Outcomes
+pub mod OneOutcome

@@ -1,177 +1,146 @@
--- What the ways in which a run ends say of its status.
-use Rattle.std.specs.Prelude.{◌≡◌, ℕ, false, List, [], ◌∷◌, map, length, Option, Some, None, IfSome, codes}
-use Rattle.std.proofs.Common.{inl, inr, arith, sym, ◌∙◌, subst}
+-- What the outcome of a run says of its status.
+use Rattle.std.specs.Prelude.{IfSome}
+use Rattle.std.proofs.Common.{◌≡◌, ◌⊎◌, inl, inr, ℕ, Bool, true, false, List, map, length, Option, Some, None, refl, sym, subst, arith}
 use Rattle.text_core.specs.Names.{Text}
 use Rattle.logic_core.specs.Truth.{Structure}
 use Rattle.logic_core.specs.Problems.{Follows}
+use Rattle.logic_core.specs.declared.problem.Fof.{Fof}
 use Rattle.vernacular_tree.specs.declared.tree.Body.{Body}
-use Rattle.io_core.specs.Causes.{Held}
-use Rattle.include_flat.specs.declared.refusal.FlatWhy.{FlatWhy}
-use Rattle.include_flat.specs.declared.refusal.FlatWhy.TheVariants as flat
+use Rattle.io_core.specs.Held.{Held}
+use Rattle.io_core.specs.Known.{Known}
+use Rattle.io_core.specs.Stream.{Stream, Puts, Breaks}
+use Rattle.include_flat.specs.Flattened.{IsFlat}
 use Rattle.proof_checker.specs.declared.ground.GroundFormula.{GroundFormula}
 use Rattle.proof_checker.specs.declared.ground.CitedFact.{CitedFact}
 use Rattle.proof_checker.specs.Ground.{fof_of, goals_of}
 use Rattle.proof_checker.specs.Accepted.{IsAccepted}
-use Rattle.larus_cli.specs.declared.report.ProofRefusal.{ProofRefusal}
-use Rattle.larus_cli.specs.declared.report.ProofRefusal.TheVariants as proof
-use Rattle.larus_cli.specs.declared.report.Report.{Report}
-use Rattle.larus_cli.specs.declared.report.Report.TheVariants.{Accepted, Refused, Converted, ProblemFile, ProblemNotBuilt, ProofFile}
-use Rattle.larus_cli.specs.Lines.{line_of, is_output, status_of, flat_status, proof_status}
-use Rattle.larus_cli.specs.Outcome.{CheckReported, ConvertReported, Outside, Stream, Says, of_check, of_convert, Appended, Outcome, usage, answered, complained, out_of_memory, ProblemFollows, ProblemPrinted}
+use Rattle.larus_cli.specs.Words.{command_of, check_words, convert_words, names_in}
+use Rattle.larus_cli.specs.Done.{Done, accepted, converted}
+use Rattle.larus_cli.specs.Follows.{ReadsBack, ProblemFollows, ProblemPrinted}
+use Rattle.larus_cli.specs.Answers.{IsAsked, of_problem, as_second, Answer, done, refused, problem_refused, problem_not_built}
+use Rattle.larus_cli.specs.Answers.{too_long, no_tokens, no_proof, usage, fault}
+use Rattle.larus_cli.specs.Outcome.{Sinks, sinks, PutsTo, Outcome, answered, broken, out_of_memory}
 
--- the words of a check tell the two names
-same_names : (words : List Text) (problem name other another : Text) → words ≡ codes "check" ∷ problem ∷ name ∷ [] →
-    words ≡ codes "check" ∷ other ∷ another ∷ [] → problem ≡ other
-same_names words problem name other another e f = cc
+-- an answer with status 0 goes to the output, and the command is done
+done_row : {words : List Text} {files later : Known} {output : Bool} {text : Text} {status : ℕ} → Answer words files later output text status →
+    status ≡ 0 → (output ≡ true) × Done words files text
+done_row (done text row) e = (refl, row)
+done_row row e = absurd (omega arith)
 
--- the words of a conversion are no check
-apart : (words : List Text) (problem name other : Text) → words ≡ codes "check" ∷ problem ∷ name ∷ [] →
-    words ≡ codes "convert" ∷ codes "problem" ∷ other ∷ [] → ⊥
-apart words problem name other e f = cc
-
-same_name : (words : List Text) (problem other : Text) → words ≡ codes "convert" ∷ codes "problem" ∷ problem ∷ [] →
-    words ≡ codes "convert" ∷ codes "problem" ∷ other ∷ [] → problem ≡ other
-same_name words problem other e f = cc
-
--- no refusal of a file has the status 0
-flat_some : (why : FlatWhy) → flat_status why ≡ 0 → ⊥
-flat_some flat.FileFault e = omega arith
-flat_some (flat.Lex refusal) e = omega arith
-flat_some (flat.Syntax refusal) e = omega arith
-flat_some flat.FileTooLong e = omega arith
-flat_some flat.AllTooLong e = omega arith
-flat_some flat.IncludeDepth e = omega arith
-flat_some flat.TooManyFormulas e = omega arith
-flat_some flat.Memory e = omega arith
-
-proof_some : (why : ProofRefusal) → proof_status why ≡ 0 → ⊥
-proof_some proof.FileFault e = omega arith
-proof_some (proof.Lexical refusal) e = omega arith
-proof_some proof.FileTooLong e = omega arith
-proof_some proof.NotBuilt e = omega arith
+-- with status 0 the command is done, and its text is put to the output
+done_of : {words : List Text} {files later : Known} {old new : Sinks} {status : ℕ} → Outcome words files later old new status → status ≡ 0 →
+    (text : Text) × Done words files text × Puts old.out new.out text
+done_of {old = old} {new = new} (answered output text status row put) e =
+    let k = done_row row e in
+    (text, k.1, (subst (λ o. PutsTo o old new text) k.0 put).0)
+done_of outcome e = absurd (omega arith)
 
 -- what is accepted follows
 abbrev Law : Structure → Type 0
 Law s = (problem : List GroundFormula) (steps : List CitedFact) (body : Body) → length (goals_of problem) ≡ 1 →
     IsAccepted problem steps body → Follows s (map fof_of problem)
 
--- an accepted proof's problem follows, where the files tell what they hold
-accepted_by : (s : Structure) → Law s → (problem name : Text) (held : Option Held) (report : Report) →
-    IfSome held (λ h. CheckReported h problem name report) → status_of report ≡ 0 → IfSome held (λ h. ProblemFollows s h problem)
-accepted_by s law problem name None report told e = tt
-accepted_by s law problem name (Some h) (Accepted size) told e =
-    let (ground, holds, (bytes, are, a)) = told in
-    (holds.formulas, holds.flat_are, subst (Follows s) (sym holds.ground_are.are) (law ground a.steps a.body holds.ground_are.one_goal a.accepted))
-accepted_by s law problem name (Some h) Refused told e = absurd (omega arith)
-accepted_by s law problem name (Some h) (Converted text) told e = absurd told
-accepted_by s law problem name (Some h) (ProblemFile refusal) told e = absurd (flat_some refusal.why e)
-accepted_by s law problem name (Some h) ProblemNotBuilt told e = absurd (omega arith)
-accepted_by s law problem name (Some h) (ProofFile why) told e = absurd (proof_some why e)
+flat_follows : (s : Structure) (held : Option Held) (name : Text) (formulas : List Fof) → IfSome held (λ h. IsFlat h name formulas) →
+    Follows s formulas → IfSome held (λ h. (fs : List Fof) × IsFlat h name fs × Follows s fs)
+flat_follows s None name formulas flat follows = tt
+flat_follows s (Some h) name formulas flat follows = (formulas, flat, follows)
 
-said_follows : (s : Structure) → Law s → (words : List Text) (before after : Outside) (problem name : Text) (report : Report) (line : Text) →
-    words ≡ codes "check" ∷ problem ∷ name ∷ [] → Says words before after report line → status_of report ≡ 0 →
-    IfSome before.held (λ h. ProblemFollows s h problem)
-said_follows s law words before after problem name report line are (of_check other another also told caused line_is) e =
-    subst (λ p. IfSome before.held (λ h. ProblemFollows s h p)) (same_names words other another problem name also are)
-    (accepted_by s law other another before.held report told e)
-said_follows s law words before after problem name report line are (of_convert other also told caused line_is) e =
-    absurd (apart words problem name other are also)
+-- the words of a check tell the problem, and are no conversion
+check_same : (words : List Text) (problem proof other another : Text) → words ≡ check_words problem proof → words ≡ check_words other another →
+    other ≡ problem
+check_same words problem proof other another e f = cc
 
-pub follows_of : (s : Structure) → Law s → (words : List Text) (before after : Outside) (out out_after errs errs_after : Stream) (status : ℕ) →
-    Outcome words before after out out_after errs errs_after status → (problem name : Text) →
-    words ≡ codes "check" ∷ problem ∷ name ∷ [] → status ≡ 0 → IfSome before.held (λ h. ProblemFollows s h problem)
-follows_of s law words before after out out_after errs errs_after status (usage none put same) problem name are e =
-    elim put [ inl done ↦ absurd (wrong done.0) | inr failed ↦ absurd (failing failed.0) ]
-  where
-    wrong : status ≡ 64 → ⊥
-    wrong f = omega arith
+apart : (words : List Text) (problem proof other : Text) → words ≡ check_words problem proof → words ≡ convert_words other → ⊥
+apart words problem proof other e f = cc
 
-    failing : status ≡ 74 → ⊥
-    failing f = omega arith
-follows_of s law words before after out out_after errs errs_after status (answered report line says good put same) problem name are e =
-    elim put [
-      | inl done ↦ said_follows s law words before after problem name report line are says (sym done.0 ∙ e)
-      | inr failed ↦ absurd (failing failed.0)
-    ]
+convert_same : (words : List Text) (problem other : Text) → words ≡ convert_words problem → words ≡ convert_words other → other ≡ problem
+convert_same words problem other e f = cc
+
+-- the problem of an accepted proof follows
+pub follows_of : (s : Structure) → Law s → {words : List Text} {files later : Known} {old new : Sinks} {status : ℕ} →
+    Outcome words files later old new status → (problem proof : Text) → words ≡ check_words problem proof → status ≡ 0 →
+    ProblemFollows s files problem
+follows_of s law {words = words} {files = files} outcome problem proof are e = by (done_of outcome e).1
   where
-    failing : status ≡ 74 → ⊥
-    failing f = omega arith
-follows_of s law words before after out out_after errs errs_after status (complained report line says bad put same) problem name are e =
-    elim put [
-      | inl done ↦ said_follows s law words before after problem name report line are says (sym done.0 ∙ e)
-      | inr failed ↦ absurd (failing failed.0)
-    ]
-  where
-    failing : status ≡ 74 → ⊥
-    failing f = omega arith
-follows_of s law words before after out out_after errs errs_after status (out_of_memory some is same_out same_errs) problem name are e =
-    absurd (wrong is)
-  where
-    wrong : status ≡ 71 → ⊥
-    wrong f = omega arith
+    by : {text : Text} → Done words files text → ProblemFollows s files problem
+    by (accepted other another bytes formulas size also reads holds is) =
+        subst (ProblemFollows s files) (check_same words problem proof other another are also)
+        (flat_follows s files.held other reads.flat reads.reads
+        (subst (Follows s) (sym reads.are.are) (law formulas is.steps is.body reads.are.one_goal is.accepted)))
+    by (converted other text formulas also reads is back) = absurd (apart words problem proof other are also)
+
+flat_printed : (held : Option Held) (name text : Text) (formulas : List Fof) (old new : Stream) → IfSome held (λ h. IsFlat h name formulas) →
+    Puts old new text → ReadsBack text formulas →
+    IfSome held (λ h. (fs : List Fof) × IsFlat h name fs × ((text : Text) × Puts old new text × ReadsBack text fs))
+flat_printed None name text formulas old new flat put back = tt
+flat_printed (Some h) name text formulas old new flat put back = (formulas, flat, (text, put, back))
 
 -- what is printed for a converted problem reads back
-printed_by : (problem : Text) (held : Option Held) (report : Report) (line : Text) (old new : Stream) →
-    IfSome held (λ h. ConvertReported h problem report) → line ≡ line_of problem [] report → status_of report ≡ 0 →
-    Appended old new line → IfSome held (λ h. ProblemPrinted h problem old new)
-printed_by problem None report line old new told line_is e appended = tt
-printed_by problem (Some h) (Converted text) line old new told line_is e appended =
-    let (formulas, flat_are, text_is, back) = told in
-    (formulas, flat_are, (text, subst (Appended old new) line_is appended, back))
-printed_by problem (Some h) (ProblemFile refusal) line old new told line_is e appended = absurd (flat_some refusal.why e)
-printed_by problem (Some h) (Accepted size) line old new told line_is e appended = absurd told
-printed_by problem (Some h) Refused line old new told line_is e appended = absurd told
-printed_by problem (Some h) ProblemNotBuilt line old new told line_is e appended = absurd told
-printed_by problem (Some h) (ProofFile why) line old new told line_is e appended = absurd told
-
-said_printed : (words : List Text) (before after : Outside) (problem : Text) (report : Report) (line : Text) (old new : Stream) →
-    words ≡ codes "convert" ∷ codes "problem" ∷ problem ∷ [] → Says words before after report line → status_of report ≡ 0 →
-    Appended old new line → IfSome before.held (λ h. ProblemPrinted h problem old new)
-said_printed words before after problem report line old new are (of_check other another also told caused line_is) e appended =
-    absurd (apart words other another problem also are)
-said_printed words before after problem report line old new are (of_convert other also told caused line_is) e appended =
-    subst (λ p. IfSome before.held (λ h. ProblemPrinted h p old new)) (same_name words other problem also are)
-    (printed_by other before.held report line old new told line_is e appended)
-
--- a report that goes to the errors has not the status 0
-complains : (report : Report) → is_output report ≡ false → status_of report ≡ 0 → ⊥
-complains (Accepted size) bad e = cc
-complains Refused bad e = cc
-complains (Converted text) bad e = cc
-complains (ProblemFile refusal) bad e = flat_some refusal.why e
-complains ProblemNotBuilt bad e = omega arith
-complains (ProofFile why) bad e = proof_some why e
-
-pub printed_of : (words : List Text) (before after : Outside) (out out_after errs errs_after : Stream) (status : ℕ) →
-    Outcome words before after out out_after errs errs_after status → (problem : Text) →
-    words ≡ codes "convert" ∷ codes "problem" ∷ problem ∷ [] → status ≡ 0 →
-    IfSome before.held (λ h. ProblemPrinted h problem out out_after)
-printed_of words before after out out_after errs errs_after status (usage none put same) problem are e =
-    elim put [ inl done ↦ absurd (wrong done.0) | inr failed ↦ absurd (failing failed.0) ]
+pub printed_of : {words : List Text} {files later : Known} {old new : Sinks} {status : ℕ} → Outcome words files later old new status →
+    (problem : Text) → words ≡ convert_words problem → status ≡ 0 → ProblemPrinted files problem old.out new.out
+printed_of {words = words} {files = files} {old = old} {new = new} outcome problem are e = by (done_of outcome e).1 (done_of outcome e).2
   where
-    wrong : status ≡ 64 → ⊥
-    wrong f = omega arith
+    by : {text : Text} → Done words files text → Puts old.out new.out text → ProblemPrinted files problem old.out new.out
+    by (accepted other another bytes formulas size also reads holds is) put = absurd (apart words other another problem also are)
+    by (converted other text formulas also reads is back) put =
+        subst (λ p. ProblemPrinted files p old.out new.out) (convert_same words problem other are also)
+        (flat_printed files.held other text formulas old.out new.out reads put back)
 
-    failing : status ≡ 74 → ⊥
-    failing f = omega arith
-printed_of words before after out out_after errs errs_after status (answered report line says good put same) problem are e =
-    elim put [
-      | inl done ↦ said_printed words before after problem report line out out_after are says (sym done.0 ∙ e) done.1
-      | inr failed ↦ absurd (failing failed.0)
-    ]
-  where
-    failing : status ≡ 74 → ⊥
-    failing f = omega arith
-printed_of words before after out out_after errs errs_after status (complained report line says bad put same) problem are e =
-    elim put [
-      | inl done ↦ absurd (complains report bad (sym done.0 ∙ e))
-      | inr failed ↦ absurd (failing failed.0)
-    ]
-  where
-    failing : status ≡ 74 → ⊥
-    failing f = omega arith
-printed_of words before after out out_after errs errs_after status (out_of_memory some is same_out same_errs) problem are e =
-    absurd (wrong is)
-  where
-    wrong : status ≡ 71 → ⊥
-    wrong f = omega arith
+-- words that are a check, or that name files, are a command
+check_some : (words : List Text) (problem proof : Text) → words ≡ check_words problem proof → command_of words ≡ None → ⊥
+check_some words problem proof are = subst (λ ws. command_of ws ≡ None → ⊥) (sym are) (λ none. cc)
+
+convert_some : (words : List Text) (problem : Text) → words ≡ convert_words problem → command_of words ≡ None → ⊥
+convert_some words problem are = subst (λ ws. command_of ws ≡ None → ⊥) (sym are) (λ none. cc)
+
+names_some : (words : List Text) (names : Text × Option Text) → names_in (command_of words) words ≡ Some names → command_of words ≡ None → ⊥
+names_some words names are none = let never = rw none at are in cc
+
+done_some : {words : List Text} {files : Known} {text : Text} → Done words files text → command_of words ≡ None → ⊥
+done_some {words = words} (accepted problem proof bytes formulas size are reads holds is) none = check_some words problem proof are none
+done_some {words = words} (converted problem text formulas are reads is back) none = convert_some words problem are none
+
+asked_some : {words : List Text} {files : Known} {file : Text} → IsAsked words files file → command_of words ≡ None → ⊥
+asked_some {words = words} (of_problem problem names asked) none = names_some words _ names.1 none
+asked_some {words = words} (as_second problem formulas names reads) none = names_some words _ names none
+
+-- words that are no command are answered with the usage text
+usage_row : {words : List Text} {files later : Known} {output : Bool} {text : Text} {status : ℕ} → Answer words files later output text status →
+    command_of words ≡ None → status ≡ 64
+usage_row (done text row) none = absurd (done_some row none)
+usage_row {words = words} (refused problem proof bytes formulas are reads holds is) none = absurd (check_some words problem proof are none)
+usage_row {words = words} (problem_refused problem file why names told inner) none = absurd (names_some words _ names.1 none)
+usage_row {words = words} (problem_not_built problem second formulas names reads is) none = absurd (names_some words _ names none)
+usage_row {words = words} (too_long problem second formulas names reads long) none = absurd (names_some words _ names none)
+usage_row {words = words} (no_tokens problem second bytes formulas refusal names reads holds is) none = absurd (names_some words _ names none)
+usage_row {words = words} (no_proof problem second bytes formulas names reads holds is) none = absurd (names_some words _ names none)
+usage_row (usage is) none = refl
+usage_row (fault file asked fails) none = absurd (asked_some asked none)
+
+-- words that are no command end with 64, or 74 where the errors failed
+pub no_command : {words : List Text} {files later : Known} {old new : Sinks} {status : ℕ} → Outcome words files later old new status →
+    command_of words ≡ None → (status ≡ 64) ⊎ (status ≡ 74)
+no_command (answered output text _ row put) none = inl (usage_row row none)
+no_command (broken output text wanted row breaks) none = inr refl
+no_command (out_of_memory some same) none = absurd (some none)
+
+-- a text was put to one sink, or a part of it
+abbrev pub IsPut : Stream → Stream → Text → ℕ → ℕ → Type 0
+IsPut old new text wanted status = ((status ≡ wanted) × Puts old new text) ⊎ ((status ≡ 74) × Breaks old new text)
+
+module _ {words : List Text} {files later : Known} (here new other : Stream) (text : Text) (wanted status : ℕ) where
+  -- an answer was put to the output
+  pub to_output : Answer words files later true text wanted → IsPut here new text wanted status →
+      Outcome words files later (sinks here other) (sinks new other) status
+  to_output row (inl (e, put)) = subst (Outcome words files later (sinks here other) (sinks new other)) (sym e)
+      (answered true text wanted row (put, refl))
+  to_output row (inr (e, part)) = subst (Outcome words files later (sinks here other) (sinks new other)) (sym e)
+      (broken true text wanted row (part, refl))
+
+  -- an answer was put to the errors
+  pub to_errors : Answer words files later false text wanted → IsPut here new text wanted status →
+      Outcome words files later (sinks other here) (sinks other new) status
+  to_errors row (inl (e, put)) = subst (Outcome words files later (sinks other here) (sinks other new)) (sym e)
+      (answered false text wanted row (put, refl))
+  to_errors row (inr (e, part)) = subst (Outcome words files later (sinks other here) (sinks other new)) (sym e)
+      (broken false text wanted row (part, refl))

@@ -1,3 +1,7 @@
 pub mod Words
-pub mod Lines
+pub mod Texts
+pub mod Follows
+pub mod Done
+pub mod Answers
+pub mod Reports
 pub mod Outcome

@@ -1,12 +1,37 @@
--- Which words are which command.
-use Rattle.std.specs.Prelude.{if◌then◌else◌, List, [], ◌∷◌, Option, Some, None, codes}
+-- Which words are which command, and which files they name.
+use Rattle.std.specs.Prelude.{◌≡◌, if◌then◌else◌, List, [], ◌∷◌, Option, Some, None, codes}
 use Rattle.std.specs.Str.{bytes_eq}
 use Rattle.text_core.specs.Names.{Text}
 use Rattle.larus_cli.specs.declared.command.Command.{Command}
 use Rattle.larus_cli.specs.declared.command.Command.TheVariants.{Check, ConvertProblem}
 
--- `check PROBLEM PROOF` and `convert problem PROBLEM`, with any words for the names; all other lists are no command
+-- `check PROBLEM PROOF` and `convert problem PROBLEM`, with any words for the names; all other
+-- lists are no command
 abbrev pub command_of : List Text → Option Command
 command_of (first ∷ second ∷ third ∷ []) = if bytes_eq first (codes "check") then Some Check else
-    (if bytes_eq first (codes "convert") then (if bytes_eq second (codes "problem") then Some ConvertProblem else None) else None)
+    (if bytes_eq first (codes "convert")
+    then (if bytes_eq second (codes "problem") then Some ConvertProblem else None) else None)
 command_of _ = None
+
+abbrev pub check_words : Text → Text → List Text
+check_words problem proof = codes "check" ∷ problem ∷ proof ∷ []
+
+abbrev pub convert_words : Text → List Text
+convert_words problem = codes "convert" ∷ codes "problem" ∷ problem ∷ []
+
+-- the problem's file, and the second file where there is one
+abbrev pub names_in : Option Command → List Text → Option (Text × Option Text)
+names_in (Some Check) (first ∷ problem ∷ proof ∷ []) = Some (problem, Some proof)
+names_in (Some ConvertProblem) (first ∷ second ∷ problem ∷ []) = Some (problem, None)
+names_in _ _ = None
+
+abbrev pub names_of : List Text → Option (Text × Option Text)
+names_of words = names_in (command_of words) words
+
+-- the words are a command on this problem's file
+abbrev pub NamesProblem : List Text → Text → Type 0
+NamesProblem words problem = (second : Option Text) × (names_of words ≡ Some (problem, second))
+
+-- the words are a command on this problem's file and this second file
+abbrev pub NamesBoth : List Text → Text → Text → Type 0
+NamesBoth words problem second = names_of words ≡ Some (problem, Some second)

@@ -1,111 +1,181 @@
-ghost use Rattle.std.specs.Prelude.{◌≡◌, ◌≢◌, ◌≤◌, [], length, IfOk, IfSome, IsErrOf};
-ghost use Rattle.io_core.specs.Causes.{IsLong};
-ghost use Rattle.proof_checker.specs.Ground.{goals_of};
-ghost use Rattle.larus_cli.specs.Outcome.{HoldsBytes, CheckReported, ConvertReported, ProofReported, Caused, FetchFailed, outside};
-ghost use Rattle.include_flat.specs.declared.refusal.FlatWhy.TheVariants as whys;
-ghost use Rattle.larus_cli.specs.declared.report.Report.TheVariants.{ProblemFile};
+ghost use Rattle.std.specs.Prelude.{◌≡◌, IfOk, IfErr, List as Lst};
+ghost use Rattle.text_core.specs.Names.{Text};
+ghost use Rattle.io_core.specs.Known.{Known};
+ghost use Rattle.io_core.specs.Fetched.{Grows, Holds};
+ghost use Rattle.proof_checker.specs.declared.ground.GroundFormula.{GroundFormula as Ground};
+ghost use Rattle.text_core.specs.declared.limits.TheConstants.{MOST_FILE_BYTES};
+ghost use Rattle.larus_cli.specs.declared.report.Report.TheVariants.{ProofFile};
+ghost use Rattle.larus_cli.specs.Words.{command_of, NamesProblem, NamesBoth};
+ghost use Rattle.larus_cli.specs.Done.{ReadsProblem, ReadsGround};
+ghost use Rattle.larus_cli.specs.Answers.{Answer};
+ghost use Rattle.larus_cli.specs.Reports.{Decides, Halts};
 
-use crate::report::{ProofRefusal, Report};
-use include_flat::{FlatRefusal, FlatWhy, flatten};
-use io_core::{FetchFault, Files};
-use logic_core::{Bytes, Memory};
+use crate::command::{Command, check_names, convert_name};
+use crate::reply::{Reply, reply_of};
+use crate::report::{ProofRefusal, ProofWhy, Report};
+use include_flat::{FlatWhy, flatten};
+use io_core::{FetchFault, Files, fetch_whole};
+use logic_core::{Bytes, List, Memory, Problem};
 use proof_checker::{FirstRefusal, GroundFormula, NotGround, check_first, ground_formulas};
 use std::alloc::Global;
-use text_core::MOST_FILE_BYTES;
 use tptp_printer::print_problem;
 
-/// The bytes of a file, which are at most so many as a file may have.
-fn fetch_whole<F: Files>(alloc: Global, files: &mut F, name: &[u8]) -> Result<Bytes, FetchFault>
-    ensures short { IfOk result (λ bytes. length bytes ≤ MOST_FILE_BYTES) }
-    ensures holds { IfSome (F.held files.old) (λ held. IfOk result (λ bytes. HoldsBytes held name.now bytes)) }
-    ensures long { IfSome (F.held files.old) (λ held. IsErrOf result FetchFault.TooLong → IsLong held name.now MOST_FILE_BYTES) }
-    ensures failed { IsErrOf result FetchFault.Failed → FetchFailed (outside (F.held files.old) (F.faults files.old) (F.blamed files.old)) (outside (F.held files.new) (F.faults files.new) (F.blamed files.new)) name.now }
-    ensures held_stays { F.held files.new ≡ F.held files.old }
-    ensures faults_grow { F.faults files.old ≤ F.faults files.new }
-{
-    let mut bytes = Bytes::new(alloc);
-    match files.fetch(alloc, name, MOST_FILE_BYTES, &mut bytes) {
-        Ok(()) => Ok(bytes),
-        Err(FetchFault::Failed) => Err(FetchFault::Failed),
-        Err(FetchFault::TooLong) => Err(FetchFault::TooLong),
-        Err(FetchFault::Memory) => Err(FetchFault::Memory),
+/// What ends a command early.
+#[derive(Debug, Drop)]
+pub(crate) enum Halt {
+    /// This is to be said.
+    Said(Report),
+    /// Want of memory.
+    Memory,
+}
+
+impl From<Memory> for Halt {
+    ghost use Rattle.larus_cli.specs.declared.decide.Halt.{Halt as Ending};
+
+    ghost from_gives = { λ _ halt. halt ≡ Ending.Memory };
+
+    fn from(_want: Memory) -> Halt {
+        Halt::Memory
     }
 }
 
-/// The report of a refusal of the problem's files; `Memory` where it is want of memory.
-fn flat_report(refusal: FlatRefusal) -> Result<Report, Memory>
-    ensures report { IfOk result (λ report. report ≡ ProblemFile refusal) }
-    ensures some { IfOk result (λ report. refusal.why ≢ whys.Memory) }
+/// The formulas of the problem in a file, with those of the files that it includes.
+fn read_problem<F: Files>(alloc: Global, files: &mut F, name: &[u8]) -> Result<Problem, Halt>
+    ensures reads { IfOk result (ReadsProblem (F.known files.old) name.now) }
+    ensures halts { (words : Lst Text) → NamesProblem words name.now
+        → IfErr result (Halts words (F.known files.old) (F.known files.new)) }
+    ensures grows { Grows (F.known files.old) (F.known files.new) }
 {
-    match refusal.why {
-        FlatWhy::Memory => Err(Memory),
-        _ => Ok(Report::ProblemFile(refusal)),
+    match flatten(alloc, files, name) {
+        Ok(problem) => Ok(problem),
+        Err(refusal) => match refusal.why {
+            FlatWhy::Memory => Err(Halt::Memory),
+            FlatWhy::FileFault => Err(Halt::Said(Report::FileFault(refusal.file))),
+            _ => Err(Halt::Said(Report::ProblemFile(refusal))),
+        },
     }
 }
 
-/// What there is to say of a problem and a proof, by the names of their files. The problem is fetched and read
-/// first, and the first refusal ends the check. `Memory` is want of memory.
-pub(crate) fn decide_check<F: Files>(
+/// The ground formulas of the problem in a file, for a command that reads a second file.
+fn read_ground<F: Files>(
     alloc: Global,
     files: &mut F,
-    problem: &[u8],
-    proof: &[u8],
-) -> Result<Report, Memory>
-    ensures told { IfOk result (λ report. IfSome (F.held files.old) (λ held. CheckReported held problem.now proof.now report)) }
-    ensures caused { IfOk result (λ report. Caused (outside (F.held files.old) (F.faults files.old) (F.blamed files.old)) (outside (F.held files.new) (F.faults files.new) (F.blamed files.new)) proof.now report) }
+    name: &[u8],
+) -> Result<List<GroundFormula>, Halt>
+    ensures reads { IfOk result (ReadsGround (F.known files.old) name.now) }
+    ensures halts { (words : Lst Text) (second : Text) → NamesBoth words name.now second
+        → IfErr result (Halts words (F.known files.old) (F.known files.new)) }
+    ensures grows { Grows (F.known files.old) (F.known files.new) }
 {
-    let formulas = match flatten(alloc, files, problem) {
-        Ok(formulas) => formulas,
-        Err(refusal) => return flat_report(refusal),
-    };
-    let ground = match ground_formulas(alloc, &formulas) {
-        Ok(ground) => ground,
-        Err(NotGround::NotBuilt) => return Ok(Report::ProblemNotBuilt),
-        Err(NotGround::Memory) => return Err(Memory),
-    };
-    decide_proof(alloc, files, ground.as_slice(), proof)
+    let problem = read_problem(alloc, files, name)?;
+    match ground_formulas(alloc, &problem) {
+        Ok(formulas) => Ok(formulas),
+        Err(NotGround::NotBuilt) => {
+            let file = Bytes::from_slice(alloc, name)?;
+            Err(Halt::Said(Report::ProblemNotBuilt(file)))
+        }
+        Err(NotGround::Memory) => Err(Halt::Memory),
+    }
 }
 
-/// What there is to say of a proof of a problem that was read.
-fn decide_proof<F: Files>(
-    alloc: Global,
-    files: &mut F,
-    ground: &[GroundFormula],
-    proof: &[u8],
-) -> Result<Report, Memory>
-    requires { length (goals_of ground.now) ≡ 1 }
-    ensures told { IfOk result (λ report. IfSome (F.held files.old) (λ held. ProofReported held ground.now proof.now report)) }
-    ensures caused { IfOk result (λ report. Caused (outside (F.held files.old) (F.faults files.old) (F.blamed files.old)) (outside (F.held files.new) (F.faults files.new) (F.blamed files.new)) proof.now report) }
+/// What is said of a second file that is refused.
+fn refused(alloc: Global, name: &[u8], why: ProofWhy) -> Result<Report, Memory>
+    ensures { IfOk result (λ report. report ≡ ProofFile (record { file = name.now; why = why })) }
 {
-    let bytes = match fetch_whole(alloc, files, proof) {
-        Ok(bytes) => bytes,
-        Err(FetchFault::Failed) => return Ok(Report::ProofFile(ProofRefusal::FileFault)),
-        Err(FetchFault::TooLong) => return Ok(Report::ProofFile(ProofRefusal::FileTooLong)),
-        Err(FetchFault::Memory) => return Err(Memory),
-    };
-    match check_first(alloc, ground, bytes.as_slice()) {
+    let file = Bytes::from_slice(alloc, name)?;
+    Ok(Report::ProofFile(ProofRefusal { file, why }))
+}
+
+/// The bytes of the second file. Before it the problem was read.
+fn read_second<F: Files>(alloc: Global, files: &mut F, name: &[u8]) -> Result<Bytes, Halt>
+    ensures holds { IfOk result (λ bytes. Holds
+        (F.known files.old) name.now bytes MOST_FILE_BYTES) }
+    ensures halts { (words : Lst Text) (before : Known) (problem : Text) (formulas : Lst Ground)
+        → Grows before (F.known files.old) → NamesBoth words problem name.now
+        → ReadsGround before problem formulas → IfErr result (Halts words before (F.known files.new)) }
+    ensures grows { Grows (F.known files.old) (F.known files.new) }
+{
+    match fetch_whole(alloc, files, name) {
+        Ok(bytes) => Ok(bytes),
+        Err(FetchFault::Failed) => {
+            let file = Bytes::from_slice(alloc, name)?;
+            Err(Halt::Said(Report::FileFault(file)))
+        }
+        Err(FetchFault::TooLong) => {
+            let report = refused(alloc, name, ProofWhy::FileTooLong)?;
+            Err(Halt::Said(report))
+        }
+        Err(FetchFault::Memory) => Err(Halt::Memory),
+    }
+}
+
+/// What there is to say of a proof of a problem. The problem is read first.
+fn check<F: Files>(alloc: Global, words: &[Bytes], files: &mut F) -> Result<Report, Halt>
+    requires { command_of words.now ≡ Some Command.Check }
+    ensures decides { Decides words.now (F.known files.old) (F.known files.new) result }
+    ensures grows { Grows (F.known files.old) (F.known files.new) }
+{
+    let (problem, name) = check_names(words);
+    let formulas = read_ground(alloc, files, problem)?;
+    let bytes = read_second(alloc, files, name)?;
+    match check_first(alloc, formulas.as_slice(), bytes.as_slice()) {
         Ok(size) => Ok(Report::Accepted(size)),
         Err(FirstRefusal::Refused) => Ok(Report::Refused),
-        Err(FirstRefusal::Lexical(refusal)) => Ok(Report::ProofFile(ProofRefusal::Lexical(
-            refusal,
-        ))),
-        Err(FirstRefusal::NotBuilt) => Ok(Report::ProofFile(ProofRefusal::NotBuilt)),
-        Err(FirstRefusal::Memory) => Err(Memory),
+        Err(FirstRefusal::Lexical(refusal)) => {
+            let report = refused(alloc, name, ProofWhy::Lexical(refusal))?;
+            Ok(report)
+        }
+        Err(FirstRefusal::NotBuilt) => {
+            let report = refused(alloc, name, ProofWhy::NotBuilt)?;
+            Ok(report)
+        }
+        Err(FirstRefusal::Memory) => Err(Halt::Memory),
     }
 }
 
-/// What there is to say of a problem that is to be printed, by the name of its file: its canonical text, or the refusal of a
-/// file. `Memory` is want of memory.
-pub(crate) fn decide_convert<F: Files>(
-    alloc: Global,
-    files: &mut F,
-    problem: &[u8],
-) -> Result<Report, Memory>
-    ensures told { IfOk result (λ report. IfSome (F.held files.old) (λ held. ConvertReported held problem.now report)) }
-    ensures caused { IfOk result (λ report. Caused (outside (F.held files.old) (F.faults files.old) (F.blamed files.old)) (outside (F.held files.new) (F.faults files.new) (F.blamed files.new)) [] report) }
+/// What there is to say of a problem that is to be printed.
+fn convert_problem<F: Files>(alloc: Global, words: &[Bytes], files: &mut F) -> Result<Report, Halt>
+    requires { command_of words.now ≡ Some Command.ConvertProblem }
+    ensures decides { Decides words.now (F.known files.old) (F.known files.new) result }
+    ensures grows { Grows (F.known files.old) (F.known files.new) }
 {
-    match flatten(alloc, files, problem) {
-        Ok(formulas) => Ok(Report::Converted(print_problem(alloc, &formulas)?)),
-        Err(refusal) => flat_report(refusal),
+    let problem = read_problem(alloc, files, convert_name(words))?;
+    let text = print_problem(alloc, &problem)?;
+    Ok(Report::Converted(text))
+}
+
+/// What there is to say to words that are a command.
+fn decide<F: Files>(
+    alloc: Global,
+    words: &[Bytes],
+    command: Command,
+    files: &mut F,
+) -> Result<Report, Halt>
+    requires { command_of words.now ≡ Some command }
+    ensures decides { Decides words.now (F.known files.old) (F.known files.new) result }
+    ensures grows { Grows (F.known files.old) (F.known files.new) }
+{
+    match command {
+        Command::Check => check(alloc, words, files),
+        Command::ConvertProblem => convert_problem(alloc, words, files),
+    }
+}
+
+/// The reply to words that are a command; `Memory` is want of memory.
+pub(crate) fn reply_to<F: Files>(
+    alloc: Global,
+    words: &[Bytes],
+    command: Command,
+    files: &mut F,
+) -> Result<Reply, Memory>
+    requires { command_of words.now ≡ Some command }
+    ensures answer { IfOk result (λ reply. Answer words.now (F.known files.old) (F.known files.new)
+        reply.is_output reply.text reply.status) }
+    ensures grows { Grows (F.known files.old) (F.known files.new) }
+{
+    match decide(alloc, words, command, files) {
+        Ok(report) => reply_of(alloc, report),
+        Err(Halt::Said(report)) => reply_of(alloc, report),
+        Err(Halt::Memory) => Err(Memory),
     }
 }

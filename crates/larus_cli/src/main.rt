@@ -8,21 +8,22 @@ use std::process::ExitCode;
 mod arguments;
 mod command;
 mod decide;
+mod law;
+mod reply;
 mod report;
 mod run;
 #[cfg(test)]
 mod tests;
 
 pub use command::{Command, read_words};
-pub use report::{ProofRefusal, Report, message};
+pub use law::one_outcome;
+pub use reply::message;
+pub use report::{ProofRefusal, ProofWhy, Report};
 pub use run::run;
-
-/// The status for want of memory.
-const OUT_OF_MEMORY: u8 = 71;
 
 fn main(rt: HostRuntime) -> ExitCode {
     let Ok(words) = arguments::words(&rt, rt.alloc()) else {
-        return ExitCode::from(OUT_OF_MEMORY);
+        return ExitCode::from(run::OUT_OF_MEMORY);
     };
     let mut files = RealFiles::new(&rt);
     let mut out = StreamSink::new(rt.stdout());

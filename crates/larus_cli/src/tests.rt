@@ -1,9 +1,12 @@
-use crate::{Command, ProofRefusal, Report, message, read_words, run};
+use crate::{Command, ProofRefusal, ProofWhy, Report, message, read_words, run};
 use io_core::{MemoryFiles, MemorySink};
 use logic_core::{AnyWorld, Bytes, List};
 use std::alloc::Global;
 use std::process::Abort;
 use std::test::Fail;
+use text_core::{MOST_FILE_BYTES, MOST_FORMULAS};
+use tptp_grammar::SyntaxRefusal;
+use tptp_lexer::LexRefusal;
 
 const CHECK: &[&[u8]] = &[b"check", b"x.p", b"x.v"];
 
@@ -62,6 +65,16 @@ const ANSWERS: &[(&[&[u8]], Entries, u8, &[u8])] = &[
         &[(b"x.p", b"fof(a,axiom,! [X] : p(X) & q).")],
         0,
         b"fof(a,axiom,! [X] : p(X) & q).\n",
+    ),
+    // brackets, quotes and annotations that the canonical text leaves out
+    (
+        CONVERT,
+        &[(
+            b"x.p",
+            b"fof('abc',axiom,(~ (a = b)) <= ((p & (q))),file('x.p',u)).\nfof(12,lemma,'A b'('it\\'s')).",
+        )],
+        0,
+        b"fof(abc,axiom,a != b <= (p & q)).\nfof(12,lemma,'A b'('it\\'s')).\n",
     ),
     // nothing is printed for no formulas
     (CONVERT, &[(b"x.p", b"")], 0, b""),
@@ -158,9 +171,9 @@ fn an_answer_goes_to_the_output(rt: HostRuntime) -> Result<(), Fail> {
 #[test]
 fn a_refused_problem_goes_to_the_errors(rt: HostRuntime) -> Result<(), Fail> {
     for words in [CHECK, CONVERT] {
-        for (entries, status, line) in REFUSED_PROBLEMS {
+        for (entries, status, text) in REFUSED_PROBLEMS {
             let files = files_of(rt.alloc(), entries)?;
-            assert_ends(&rt, rt.alloc(), words, files, (*status, b"", line))?;
+            assert_ends(&rt, rt.alloc(), words, files, (*status, b"", text))?;
         }
     }
     Ok(())
@@ -168,9 +181,9 @@ fn a_refused_problem_goes_to_the_errors(rt: HostRuntime) -> Result<(), Fail> {
 
 #[test]
 fn a_proof_that_is_not_read_goes_to_the_errors(rt: HostRuntime) -> Result<(), Fail> {
-    for (proof, line) in REFUSED_PROOFS {
+    for (proof, text) in REFUSED_PROOFS {
         let files = files_of(rt.alloc(), &[(b"x.p", PROBLEM), (b"x.v", proof)])?;
-        assert_ends(&rt, rt.alloc(), CHECK, files, (3, b"", line))?;
+        assert_ends(&rt, rt.alloc(), CHECK, files, (3, b"", text))?;
     }
     Ok(())
 }
@@ -183,10 +196,10 @@ fn a_failing_fetch_is_told_by_its_file(rt: HostRuntime) -> Result<(), Fail> {
         (2, b"b: 11 FileFault\n"),
         (3, b"x.v: 11 FileFault\n"),
     ];
-    for (fetch, line) in rows {
+    for (fetch, text) in rows {
         let mut files = files_of(rt.alloc(), FOUR_FILES)?;
         files.fail_at(fetch)?;
-        assert_ends(&rt, rt.alloc(), CHECK, files, (66, b"", line))?;
+        assert_ends(&rt, rt.alloc(), CHECK, files, (66, b"", text))?;
     }
     Ok(())
 }
@@ -250,7 +263,7 @@ fn a_failing_usage_text_gives_74(rt: HostRuntime) -> Result<(), Fail> {
 }
 
 #[test]
-fn words_and_lines(rt: HostRuntime) -> Result<(), Fail> {
+fn words_and_texts(rt: HostRuntime) -> Result<(), Fail> {
     let rows: [(&[&[u8]], Option<Command>); 3] = [
         (CHECK, Some(Command::Check)),
         (CONVERT, Some(Command::ConvertProblem)),
@@ -262,8 +275,63 @@ fn words_and_lines(rt: HostRuntime) -> Result<(), Fail> {
             command
         );
     }
-    let refusal = Report::ProofFile(ProofRefusal::FileTooLong);
-    let line = message(rt.alloc(), b"x.p", b"x.v", refusal)?;
-    assert_eq!(rt; line.as_slice(), b"x.v: 12 FileTooLong\n".as_slice());
+    let file = Bytes::from_slice(rt.alloc(), b"x.v")?;
+    let why = ProofWhy::FileTooLong;
+    let text = message(rt.alloc(), Report::ProofFile(ProofRefusal { file, why }))?;
+    assert_eq!(rt; text.as_slice(), b"x.v: 12 FileTooLong\n".as_slice());
+    Ok(())
+}
+
+/// A text, so many times.
+fn times(alloc: Global, text: &[u8], count: u32) -> Result<Bytes, Fail> {
+    let mut all = Bytes::new(alloc);
+    for _ in 0..count {
+        all.extend_from_slice(text)?;
+    }
+    Ok(all)
+}
+
+#[test]
+fn a_problem_that_is_too_large_is_refused(rt: HostRuntime) -> Result<(), Fail> {
+    let full = times(rt.alloc(), b" ", MOST_FILE_BYTES)?;
+    let long = times(rt.alloc(), b" ", MOST_FILE_BYTES + 1)?;
+    let many = times(rt.alloc(), b"fof(a,axiom,p).", MOST_FORMULAS + 1)?;
+    let twice = b"include('b'). include('b').".as_slice();
+    let rows: [(&[u8], &[u8]); 3] = [
+        (long.as_slice(), b"x.p: 12 FileTooLong\n"),
+        (twice, b"b: 13 AllTooLong\n"),
+        (many.as_slice(), b"x.p: 15 TooManyFormulas\n"),
+    ];
+    for (problem, text) in rows {
+        let files = files_of(rt.alloc(), &[(b"x.p", problem), (b"b", full.as_slice())])?;
+        assert_ends(&rt, rt.alloc(), CONVERT, files, (2, b"", text))?;
+    }
+    Ok(())
+}
+
+#[test]
+fn refusals_are_displayed_by_their_names(rt: HostRuntime) -> Result<(), Fail> {
+    let lexical: [(LexRefusal, &str); 5] = [
+        (LexRefusal::BadByte(0), "BadByte"),
+        (LexRefusal::OpenQuote(0), "OpenQuote"),
+        (LexRefusal::OpenComment(0), "OpenComment"),
+        (LexRefusal::EmptyQuote(0), "EmptyQuote"),
+        (LexRefusal::Memory, "Memory"),
+    ];
+    for (refusal, name) in &lexical {
+        assert_eq!(rt; refusal.to_string(rt.alloc())?.as_str(), *name);
+    }
+    let syntax: [(SyntaxRefusal, &str); 7] = [
+        (SyntaxRefusal::Unexpected(0), "Unexpected"),
+        (SyntaxRefusal::FunctionTerm(0), "FunctionTerm"),
+        (SyntaxRefusal::EndOfText(0), "EndOfText"),
+        (SyntaxRefusal::TooDeep(0), "TooDeep"),
+        (SyntaxRefusal::Role(0), "Role"),
+        (SyntaxRefusal::FreeVariable(0), "FreeVariable"),
+        (SyntaxRefusal::Memory, "Memory"),
+    ];
+    for (refusal, name) in &syntax {
+        assert_eq!(rt; refusal.to_string(rt.alloc())?.as_str(), *name);
+    }
     Ok(())
 }

@@ -10,3 +10,4 @@ pub mod Acceptance
 pub mod Truth
 pub mod Read
 pub mod Told
+pub mod Laws

@@ -1,5 +1,5 @@
 -- Laws for every crate: on lists, on members, on items by their number, on fronts, on tests, on options and on exact answers.
-use Rattle.std.proofs.Common.{◌≡◌, ℕ, zero, suc, ◌+◌, ◌<◌, ◌≤◌, ◌==◌, ◌⊎◌, inl, inr, Bool, true, false, not, ◌&&◌, ◌||◌, List, [], ◌∷◌, ◌++◌, map, length, take, slice_get, slice_index, Some, Result, Ok, Err, refl, ap, subst, arith, add-one}
+use Rattle.std.proofs.Common.{◌≡◌, ℕ, zero, suc, ◌+◌, ◌<◌, ◌≤◌, ◌==◌, ◌⊎◌, inl, inr, Bool, true, false, not, ◌&&◌, ◌||◌, List, [], ◌∷◌, ◌++◌, map, length, take, slice_get, slice_index, Some, Ok, Err, refl, ap, subst, arith, add-one}
 use Rattle.std.specs.List.{AllByRecursion}
 use Rattle.text_core.specs.Names.{Text, IsPrintable, IsNameText}
 use Rattle.text_core.specs.Lists.{SomeOf, IsAmong}

@@ -4,8 +4,7 @@ use Rattle.std.proofs.Common.{inl, inr, refl, sym, ◌∙◌, ap, subst}
 use Rattle.token_grammar.specs.Answers.{IsAccepted, AreOne}
 use Rattle.token_grammar.specs.declared.refusal.Refusal.{Refusal}
 use Rattle.token_grammar.specs.declared.refusal.Refusal.TheVariants as machine
-use Rattle.token_grammar.proofs.Laws as agreement
-use Rattle.token_grammar.proofs.Laws.{computed_decided}
+use Rattle.token_grammar.proofs.Laws.{answers_agree, computed_decided}
 use Rattle.tptp_lexer.specs.Columns.{Lexed, starts_of}
 use Rattle.tptp_grammar.specs.declared.limit.Limit.{Limit}
 use Rattle.tptp_grammar.specs.declared.limit.Limit.TheVariants as limit
@@ -104,7 +103,7 @@ none_accepted machine.EndsEarly some one = cc
 one_answer : (lexed : Lexed) (a b : Refusal ItemPart Limit) → IsMachineRefusal lexed a → IsMachineRefusal lexed b →
     a ≢ machine.Memory → b ≢ machine.Memory → a ≡ b
 one_answer lexed a b (after, first) (later, second) some also =
-    of_one a b (agreement.answers_agree fof_items items_plan items_watcher items_law (computed_decided look) Items []
+    of_one a b (answers_agree fof_items items_plan items_watcher items_law (computed_decided look) Items []
     (marks_of lexed.tokens) after later (Err a) (Err b) first second) some also
 
 -- two refusals of the same tokens are one
@@ -120,5 +119,5 @@ pub accepted_no_fault : (lexed : Lexed) (after : Bindings) (a : SyntaxRefusal) �
     IsAccepted fof_items items_watcher Items [] (marks_of lexed.tokens) after → SyntaxFault lexed a → ⊥
 accepted_no_fault lexed after a accepted fault =
     let (x, (later, refused), told, some) = fault_told lexed a fault in
-    none_accepted x some (agreement.answers_agree fof_items items_plan items_watcher items_law (computed_decided look) Items []
+    none_accepted x some (answers_agree fof_items items_plan items_watcher items_law (computed_decided look) Items []
     (marks_of lexed.tokens) after later (Ok tt) (Err x) accepted refused)

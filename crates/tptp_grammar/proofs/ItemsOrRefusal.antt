@@ -9,8 +9,7 @@ use Rattle.token_grammar.specs.Answers.{IsAnswer}
 use Rattle.token_grammar.specs.Answered.{HasAnswer}
 use Rattle.token_grammar.specs.declared.refusal.Refusal.{Refusal}
 use Rattle.token_grammar.specs.declared.refusal.Refusal.TheVariants as machine
-use Rattle.token_grammar.proofs.Laws.{tokens_answered}
-use Rattle.token_grammar.proofs.Laws.{computed_decided}
+use Rattle.token_grammar.proofs.Laws.{tokens_answered, computed_decided}
 use Rattle.tptp_lexer.specs.Tokens.{Token, AreTokens}
 use Rattle.tptp_lexer.specs.Columns.{starts_of}
 use Rattle.tptp_grammar.specs.declared.limit.Limit.{Limit}

@@ -1,0 +1,86 @@
+-- What is said where a command ends early is a row of the table of answers.
+use Rattle.std.specs.Prelude.{◌≢◌, IfSome}
+use Rattle.std.proofs.Common.{◌≡◌, ◌⊎◌, inl, inr, ◌++◌, false, List, Option, Some, None, ◌∙◌, sym, subst, refl, arith}
+use Rattle.text_core.specs.declared.limits.TheConstants.{MOST_FILE_BYTES}
+use Rattle.text_core.specs.Names.{Text}
+use Rattle.io_core.specs.Held.{Held}
+use Rattle.io_core.specs.Known.{Known}
+use Rattle.io_core.specs.Fetched.{Grows, Fails, Holds, IsLong, IsTooLong}
+use Rattle.io_core.proofs.Laws.{grows_on}
+use Rattle.include_flat.specs.declared.refusal.FlatWhy.{FlatWhy}
+use Rattle.include_flat.specs.declared.refusal.FlatWhy.TheVariants as flat
+use Rattle.include_flat.specs.Flattened.{IsFlat}
+use Rattle.include_flat.specs.Refusals.{IsFlatRefused, IsFlatRefusal, IsOutside}
+use Rattle.proof_checker.specs.declared.ground.GroundFormula.{GroundFormula}
+use Rattle.larus_cli.specs.Words.{command_of, check_words, convert_words, NamesProblem, NamesBoth}
+use Rattle.larus_cli.specs.declared.report.Report.TheVariants.{FileFault, ProblemFile}
+use Rattle.larus_cli.specs.Done.{ReadsProblem, ReadsGround}
+use Rattle.larus_cli.specs.Answers.{Answer, of_problem, as_second, problem_refused, too_long, fault}
+use Rattle.larus_cli.specs.Texts.{flat_text, fault_text, too_long_text}
+
+-- the files that the words of a command name
+pub names_check : (words : List Text) (problem proof : Text) → words ≡ check_words problem proof → NamesBoth words problem proof
+names_check words problem proof are = subst (λ ws. NamesBoth ws problem proof) (sym are) refl
+
+pub names_convert : (words : List Text) (problem : Text) → words ≡ convert_words problem → NamesProblem words problem
+names_convert words problem are = subst (λ ws. NamesProblem ws problem) (sym are) (None, refl)
+
+-- a refusal that does not come from outside decides the walk
+refused_told : (held : Option Held) (problem file : Text) (why : FlatWhy) → ¬ (IsOutside why) →
+    IfSome held (λ h. IsFlatRefusal h problem file why) → IfSome held (λ h. IsFlatRefused h problem file why)
+refused_told None problem file why inner told = tt
+refused_told (Some h) problem file flat.FileFault inner told = absurd (inner (inl refl))
+refused_told (Some h) problem file flat.Memory inner told = absurd (inner (inr refl))
+refused_told (Some h) problem file (flat.Lex refusal) inner told = told
+refused_told (Some h) problem file (flat.Syntax refusal) inner told = told
+refused_told (Some h) problem file flat.FileTooLong inner told = told
+refused_told (Some h) problem file flat.AllTooLong inner told = told
+refused_told (Some h) problem file flat.IncludeDepth inner told = told
+refused_told (Some h) problem file flat.TooManyFormulas inner told = told
+
+-- a file of the problem that could not be fetched
+pub problem_fault : (words : List Text) (files later : Known) (problem file : Text) (why : FlatWhy) → NamesProblem words problem →
+    IfSome files.held (λ held. IsFlatRefusal held problem file why) → why ≡ flat.FileFault → Fails files later file →
+    Answer words files later false (file ++ fault_text) 66
+problem_fault words files later problem file why names told is fails =
+    fault file (of_problem problem names (subst (λ w. IfSome files.held (λ held. IsFlatRefusal held problem file w)) is told)) fails
+
+-- a file of the problem that is refused
+pub problem_told : (words : List Text) (files later : Known) (problem file : Text) (why : FlatWhy) → NamesProblem words problem →
+    IfSome files.held (λ held. IsFlatRefusal held problem file why) → why ≢ flat.FileFault → why ≢ flat.Memory →
+    Answer words files later false (file ++ flat_text why) 2
+problem_told words files later problem file why names told fetched room =
+    problem_refused problem file why names (refused_told files.held problem file why inner told) inner
+  where
+    inner : IsOutside why → ⊥
+    inner (inl e) = fetched e
+    inner (inr e) = room e
+
+-- a fetch that fails behind others
+fails_behind : {before middle later : Known} {name : Text} → Grows before middle → Fails middle later name → Fails before later name
+fails_behind a b = record {
+  grows = grows_on a b.grows;
+  rose = let first = a.faults in let second = b.rose in omega arith;
+  blamed = b.blamed;
+}
+
+-- a second file that could not be fetched
+pub second_fault : (words : List Text) (before middle later : Known) (problem name : Text) (formulas : List GroundFormula) →
+    Grows before middle → NamesBoth words problem name → ReadsGround before problem formulas → Fails middle later name →
+    Answer words before later false (name ++ fault_text) 66
+second_fault words before middle later problem name formulas grows names reads fails =
+    fault name (as_second problem formulas names reads) (fails_behind grows fails)
+
+-- a second file that has too many bytes
+pub second_too_long : (words : List Text) (before middle later : Known) (problem name : Text) (formulas : List GroundFormula) →
+    Grows before middle → NamesBoth words problem name → ReadsGround before problem formulas →
+    IsTooLong MOST_FILE_BYTES name middle later → Answer words before later false (name ++ too_long_text) 3
+second_too_long words before middle later problem name formulas grows names reads long = too_long problem name formulas names reads
+    (subst (λ held. IfSome held (λ h. IsLong h name MOST_FILE_BYTES)) grows.held long.longer)
+
+-- what a later look at the files tells of them was so before
+pub holds_before : (before middle : Known) (name bytes : Text) → Grows before middle → Holds middle name bytes MOST_FILE_BYTES →
+    Holds before name bytes MOST_FILE_BYTES
+holds_before before middle name bytes grows holds =
+    subst (λ held. Holds (record before { held = held }) name bytes MOST_FILE_BYTES) grows.held
+    (record { held = holds.held; within = holds.within })

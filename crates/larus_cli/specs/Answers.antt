@@ -1,0 +1,68 @@
+-- The table of answers, row by row: what the words ask for, what the files hold and did, and what
+-- is printed, where and with which status.
+use Rattle.std.specs.Prelude.{ℕ, ◌≡◌, ◌++◌, Bool, true, false, List, Option, Some, None, IfSome}
+use Rattle.text_core.specs.declared.limits.TheConstants.{MOST_FILE_BYTES}
+use Rattle.text_core.specs.Names.{Text}
+use Rattle.logic_core.specs.declared.problem.Fof.{Fof}
+use Rattle.io_core.specs.Known.{Known}
+use Rattle.io_core.specs.Fetched.{Holds, Fails, IsLong}
+use Rattle.tptp_lexer.specs.declared.refusal.LexRefusal.{LexRefusal}
+use Rattle.include_flat.specs.declared.refusal.FlatWhy.{FlatWhy}
+use Rattle.include_flat.specs.Refusals.{IsFlatRefused, IsAskedFor, IsOutside}
+use Rattle.proof_checker.specs.declared.ground.GroundFormula.{GroundFormula}
+use Rattle.proof_checker.specs.declared.problem.NotGround.TheVariants as unground
+use Rattle.proof_checker.specs.declared.words.NotRead.TheVariants as unread
+use Rattle.proof_checker.specs.Ground.{IsGroundProof, IsUnground}
+use Rattle.proof_checker.specs.Unread.{IsUnread}
+use Rattle.proof_checker.specs.Accepted.{Refuses}
+use Rattle.larus_cli.specs.Words.{command_of, check_words, NamesProblem, NamesBoth}
+use Rattle.larus_cli.specs.Texts.{lexical_text, fault_text, too_long_text, not_built_text, flat_text}
+use Rattle.larus_cli.specs.Texts.{refused_text, usage_text}
+use Rattle.larus_cli.specs.Done.{ReadsProblem, ReadsGround, Done}
+
+-- the files are asked for this one: by the walk over the problem, or as the second file
+pub data IsAsked (words : List Text) (files : Known) (file : Text) : Type 0 where
+  of_problem : (problem : Text) → NamesProblem words problem →
+      IfSome files.held (λ held. IsAskedFor held problem file) → IsAsked words files file
+  as_second : (problem : Text) (formulas : List GroundFormula) → NamesBoth words problem file →
+      ReadsGround files problem formulas → IsAsked words files file
+
+-- a text goes to the output (true) or to the errors (false), with a status
+pub data Answer (words : List Text) (files later : Known) : Bool → Text → ℕ → Type 0 where
+  -- 0: the command is done
+  done : (text : Text) → Done words files text → Answer words files later true text 0
+  -- 1: the proof is not accepted
+  refused : (problem proof bytes : Text) (formulas : List GroundFormula) →
+      words ≡ check_words problem proof → ReadsGround files problem formulas →
+      Holds files proof bytes MOST_FILE_BYTES → Refuses formulas bytes →
+      Answer words files later true refused_text 1
+  -- 2: a file of the problem is refused
+  problem_refused : (problem file : Text) (why : FlatWhy) → NamesProblem words problem →
+      IfSome files.held (λ held. IsFlatRefused held problem file why) → ¬ (IsOutside why) →
+      Answer words files later false (file ++ flat_text why) 2
+  -- 2: the problem of a proof is not ground
+  problem_not_built : (problem second : Text) (formulas : List Fof) →
+      NamesBoth words problem second → ReadsProblem files problem formulas →
+      IsUnground formulas unground.NotBuilt →
+      Answer words files later false (problem ++ not_built_text) 2
+  -- 3: the second file has too many bytes
+  too_long : (problem second : Text) (formulas : List GroundFormula) →
+      NamesBoth words problem second → ReadsGround files problem formulas →
+      IfSome files.held (λ held. IsLong held second MOST_FILE_BYTES) →
+      Answer words files later false (second ++ too_long_text) 3
+  -- 3: the bytes of the second file have no tokens
+  no_tokens : (problem second bytes : Text) (formulas : List GroundFormula) (refusal : LexRefusal) →
+      NamesBoth words problem second → ReadsGround files problem formulas →
+      Holds files second bytes MOST_FILE_BYTES →
+      IsUnread IsGroundProof bytes (unread.Lexical refusal) →
+      Answer words files later false (second ++ lexical_text refusal) 3
+  -- 3: the tokens of the second file are no ground proof
+  no_proof : (problem second bytes : Text) (formulas : List GroundFormula) →
+      NamesBoth words problem second → ReadsGround files problem formulas →
+      Holds files second bytes MOST_FILE_BYTES → IsUnread IsGroundProof bytes unread.NotBuilt →
+      Answer words files later false (second ++ not_built_text) 3
+  -- 64: the words are no command
+  usage : command_of words ≡ None → Answer words files later false usage_text 64
+  -- 66: a file that was asked for could not be fetched
+  fault : (file : Text) → IsAsked words files file → Fails files later file →
+      Answer words files later false (file ++ fault_text) 66

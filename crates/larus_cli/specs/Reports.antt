@@ -1,0 +1,49 @@
+-- What is said of a report.
+use Rattle.std.specs.Prelude.{◌++◌, true, false, List, Result, Ok, Err}
+use Rattle.text_core.specs.Names.{Text}
+use Rattle.io_core.specs.Known.{Known}
+use Rattle.larus_cli.specs.declared.report.ProofWhy.{ProofWhy}
+use Rattle.larus_cli.specs.declared.report.ProofWhy.TheVariants as proof
+use Rattle.larus_cli.specs.declared.report.Report.{Report}
+use Rattle.larus_cli.specs.declared.report.Report.TheVariants.{Accepted, Refused, Converted, FileFault}
+use Rattle.larus_cli.specs.declared.report.Report.TheVariants.{ProblemFile, ProblemNotBuilt, ProofFile}
+use Rattle.larus_cli.specs.declared.reply.Reply.{Reply}
+use Rattle.larus_cli.specs.declared.decide.Halt.{Halt}
+use Rattle.larus_cli.specs.declared.decide.Halt.TheVariants as halt
+use Rattle.larus_cli.specs.Texts.{lexical_text, fault_text, too_long_text, not_built_text, flat_text}
+use Rattle.larus_cli.specs.Texts.{accepted_text, refused_text}
+use Rattle.larus_cli.specs.Answers.{Answer}
+
+-- what is behind the name of a proof's file
+abbrev pub proof_text : ProofWhy → Text
+proof_text (proof.Lexical refusal) = lexical_text refusal
+proof_text proof.FileTooLong = too_long_text
+proof_text proof.NotBuilt = not_built_text
+
+-- what is printed for a report, where and with which status
+abbrev pub reply_of : Report → Reply
+reply_of (Accepted size) = record { text = accepted_text size; is_output = true; status = 0 }
+reply_of Refused = record { text = refused_text; is_output = true; status = 1 }
+reply_of (Converted text) = record { text = text; is_output = true; status = 0 }
+reply_of (FileFault file) = record { text = file ++ fault_text; is_output = false; status = 66 }
+reply_of (ProblemFile refusal) =
+    record { text = refusal.file ++ flat_text refusal.why; is_output = false; status = 2 }
+reply_of (ProblemNotBuilt file) =
+    record { text = file ++ not_built_text; is_output = false; status = 2 }
+reply_of (ProofFile refusal) =
+    record { text = refusal.file ++ proof_text refusal.why; is_output = false; status = 3 }
+
+-- the report is a row of the table of answers
+abbrev pub IsAnswer : List Text → Known → Known → Report → Type 0
+IsAnswer words files later report = let reply = reply_of report in
+    Answer words files later reply.is_output reply.text reply.status
+
+-- what ends a command early is a row of the table of answers, or want of memory
+abbrev pub Halts : List Text → Known → Known → Halt → Type 0
+Halts words files later (halt.Said report) = IsAnswer words files later report
+Halts words files later halt.Memory = Unit {0}
+
+-- what a command says is a row of the table of answers
+abbrev pub Decides : List Text → Known → Known → Result Report Halt → Type 0
+Decides words files later (Ok report) = IsAnswer words files later report
+Decides words files later (Err ending) = Halts words files later ending

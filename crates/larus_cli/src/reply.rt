@@ -1,0 +1,159 @@
+ghost use Rattle.std.specs.Prelude.{◌≡◌, ◌++◌, true, false, IfOk};
+ghost use Rattle.larus_cli.specs.Texts as texts;
+ghost use Rattle.larus_cli.specs.Reports.{proof_text, reply_of};
+
+use crate::report::{ProofRefusal, ProofWhy, Report};
+use include_flat::{FlatRefusal, FlatWhy};
+use logic_core::{Bytes, Memory};
+use std::alloc::Global;
+use tptp_grammar::SyntaxRefusal;
+use tptp_lexer::LexRefusal;
+
+/// What is to be printed, whether to the output (and not to the errors), and the status.
+#[derive(Debug, Drop)]
+pub(crate) struct Reply {
+    pub(crate) text: Bytes,
+    pub(crate) is_output: bool,
+    pub(crate) status: u8,
+}
+
+/// A text with a line feed behind a file's name.
+fn named(alloc: Global, file: &[u8], text: &[u8]) -> Result<Bytes, Memory>
+    ensures { IfOk result (λ all. all ≡ file.now ++ texts.ended text.now) }
+{
+    let mut all = Bytes::from_slice(alloc, file)?;
+    all.extend_from_slice(text)?;
+    all.push(b'\n')?;
+    Ok(all)
+}
+
+/// The offset of a byte, and a text with a line feed, behind a file's name.
+fn at_offset(alloc: Global, file: &[u8], offset: u32, text: &[u8]) -> Result<Bytes, Memory>
+    ensures { IfOk result (λ all. all ≡ file.now ++ texts.at_offset offset text.now) }
+{
+    let digits = offset.to_string(alloc)?;
+    let mut all = Bytes::from_slice(alloc, file)?;
+    all.push(b':')?;
+    all.extend_from_slice(digits.as_bytes())?;
+    all.extend_from_slice(text)?;
+    all.push(b'\n')?;
+    Ok(all)
+}
+
+fn lexical(alloc: Global, file: &[u8], refusal: &LexRefusal) -> Result<Bytes, Memory>
+    ensures { IfOk result (λ all. all ≡ file.now ++ texts.lexical_text refusal.now) }
+{
+    match refusal {
+        LexRefusal::BadByte(offset) => at_offset(alloc, file, *offset, b": 1 BadByte"),
+        LexRefusal::OpenQuote(offset) => at_offset(alloc, file, *offset, b": 2 OpenQuote"),
+        LexRefusal::OpenComment(offset) => at_offset(alloc, file, *offset, b": 3 OpenComment"),
+        LexRefusal::EmptyQuote(offset) => at_offset(alloc, file, *offset, b": 4 EmptyQuote"),
+        LexRefusal::Memory => Err(Memory),
+    }
+}
+
+fn syntax(alloc: Global, file: &[u8], refusal: &SyntaxRefusal) -> Result<Bytes, Memory>
+    ensures { IfOk result (λ all. all ≡ file.now ++ texts.syntax_text refusal.now) }
+{
+    match refusal {
+        SyntaxRefusal::Unexpected(offset) => at_offset(alloc, file, *offset, b": 5 Unexpected"),
+        SyntaxRefusal::FunctionTerm(offset) => at_offset(alloc, file, *offset, b": 6 FunctionTerm"),
+        SyntaxRefusal::EndOfText(offset) => at_offset(alloc, file, *offset, b": 7 EndOfText"),
+        SyntaxRefusal::TooDeep(offset) => at_offset(alloc, file, *offset, b": 8 TooDeep"),
+        SyntaxRefusal::Role(offset) => at_offset(alloc, file, *offset, b": 9 Role"),
+        SyntaxRefusal::FreeVariable(offset) => at_offset(
+            alloc,
+            file,
+            *offset,
+            b": 10 FreeVariable",
+        ),
+        SyntaxRefusal::Memory => Err(Memory),
+    }
+}
+
+fn flat(alloc: Global, refusal: &FlatRefusal) -> Result<Bytes, Memory>
+    ensures { IfOk result (λ all. all ≡ refusal.now.file ++ texts.flat_text refusal.now.why) }
+{
+    let file = refusal.file.as_slice();
+    match &refusal.why {
+        FlatWhy::Lex(refusal) => lexical(alloc, file, refusal),
+        FlatWhy::Syntax(refusal) => syntax(alloc, file, refusal),
+        FlatWhy::FileFault => named(alloc, file, b": 11 FileFault"),
+        FlatWhy::FileTooLong => named(alloc, file, b": 12 FileTooLong"),
+        FlatWhy::AllTooLong => named(alloc, file, b": 13 AllTooLong"),
+        FlatWhy::IncludeDepth => named(alloc, file, b": 14 IncludeDepth"),
+        FlatWhy::TooManyFormulas => named(alloc, file, b": 15 TooManyFormulas"),
+        FlatWhy::Memory => Err(Memory),
+    }
+}
+
+fn proof(alloc: Global, refusal: &ProofRefusal) -> Result<Bytes, Memory>
+    ensures { IfOk result (λ all. all ≡ refusal.now.file ++ proof_text refusal.now.why) }
+{
+    let file = refusal.file.as_slice();
+    match &refusal.why {
+        ProofWhy::Lexical(refusal) => lexical(alloc, file, refusal),
+        ProofWhy::FileTooLong => named(alloc, file, b": 12 FileTooLong"),
+        ProofWhy::NotBuilt => named(alloc, file, b": 45 NotBuilt"),
+    }
+}
+
+fn accepted(alloc: Global, size: u32) -> Result<Bytes, Memory>
+    ensures { IfOk result (λ all. all ≡ texts.accepted_text size) }
+{
+    let digits = size.to_string(alloc)?;
+    let mut all = Bytes::from_slice(alloc, b"accepted ")?;
+    all.extend_from_slice(digits.as_bytes())?;
+    all.push(b'\n')?;
+    Ok(all)
+}
+
+/// An answer for the output.
+fn answered(text: Bytes, status: u8) -> Reply
+    ensures { result ≡ record { text = text; is_output = true; status = status } }
+{
+    Reply {
+        text,
+        is_output: true,
+        status,
+    }
+}
+
+/// An answer for the errors.
+fn complained(text: Bytes, status: u8) -> Reply
+    ensures { result ≡ record { text = text; is_output = false; status = status } }
+{
+    Reply {
+        text,
+        is_output: false,
+        status,
+    }
+}
+
+/// The reply of a report. `Memory` is want of memory, also where the report tells it.
+pub(crate) fn reply_of(alloc: Global, report: Report) -> Result<Reply, Memory>
+    ensures { IfOk result (λ reply. reply ≡ reply_of report) }
+{
+    Ok(match report {
+        Report::Accepted(size) => answered(accepted(alloc, size)?, 0),
+        Report::Refused => answered(named(alloc, b"", b"refused")?, 1),
+        Report::Converted(text) => answered(text, 0),
+        Report::FileFault(file) => complained(
+            named(alloc, file.as_slice(), b": 11 FileFault")?,
+            66,
+        ),
+        Report::ProblemFile(refusal) => complained(flat(alloc, &refusal)?, 2),
+        Report::ProblemNotBuilt(file) => complained(
+            named(alloc, file.as_slice(), b": 45 NotBuilt")?,
+            2,
+        ),
+        Report::ProofFile(refusal) => complained(proof(alloc, &refusal)?, 3),
+    })
+}
+
+/// What is printed for a report. `Memory` is want of memory, also where the report tells it.
+pub fn message(alloc: Global, report: Report) -> Result<Bytes, Memory>
+    ensures { IfOk result (λ text. text ≡ (reply_of report).text) }
+{
+    Ok(reply_of(alloc, report)?.text)
+}
