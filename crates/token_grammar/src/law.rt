@@ -2,6 +2,7 @@ ghost use Rattle.std.specs.Prelude.{◌≡◌, ◌↔◌, Bool, true, false, Lis
 ghost use Rattle.token_grammar.specs.Grammar.{IsText, BeginsText};
 ghost use Rattle.token_grammar.specs.Taken.{Taken};
 ghost use Rattle.token_grammar.specs.SpelledAs.{SpelledAs};
+ghost use Rattle.token_grammar.specs.Building.{IsBuilding};
 ghost use Rattle.token_grammar.specs.Answers.{IsAccepted, IsAnswer, AreOne};
 ghost use Rattle.token_grammar.specs.Answered.{HasAnswer};
 ghost use Rattle.token_grammar.specs.declared.refusal.Refusal.{Refusal};
@@ -10,7 +11,6 @@ use crate::builder::Builder;
 use crate::factored::Factored;
 use crate::part::Part;
 use crate::source::Source;
-use crate::told::Told;
 
 /// The answers exclude each other: two answers for the same tokens are one answer, number, last
 /// part and fault included, where neither is want of memory.
@@ -58,12 +58,18 @@ pub fn texts_have_one_value<P: Part, S: Source<P::Token>, B: Builder<P, S>>()
         SpelledAs B.grammar B.Value (B.making tokens) start second ts → first ≡ second }
 {}
 
-/// What the watcher has seen of a text is the effect of the value that the text's tokens spell.
-pub fn seen_is_told<W: Told>()
-    ensures { (store : W.Store) (start : W.Part) (before after : W.Seen) (ts : List W.Token)
-        (value : W.Value start) → IsAccepted W.grammar W.watcher start before ts after →
-        SpelledAs W.grammar W.Value (W.making store) start value ts →
-        after ≡ W.effect store start value before }
+/// What a watcher has seen of a text is told by the text's value: where it goes on as `looks` says,
+/// and that comes to one `effect` of each part's value, it ends at the effect of the whole value.
+pub fn seen_is_told<P: Part, S: Source<P::Token>, B: Builder<P, S>>()
+    ensures { (tokens : S) (looks : P → P.Token → P.Seen → P.Seen)
+        (effect : (p : P) → B.Value p → P.Seen → P.Seen) →
+        ((before after : P.Seen) (p : P) (t : P.Token) → P.watcher.sees before p t after →
+        after ≡ looks p t before) →
+        IsBuilding B.grammar B.Value (B.making tokens) looks (λ p seen. seen) effect →
+        (start : P) (before after : P.Seen) (ts : List P.Token) (value : B.Value start) →
+        IsAccepted P.grammar P.watcher start before ts after →
+        SpelledAs B.grammar B.Value (B.making tokens) start value ts →
+        after ≡ effect start value before }
 {}
 
 /// The factored grammar spells and begins the same tokens as the printed one.

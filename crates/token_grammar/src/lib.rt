@@ -14,7 +14,6 @@ mod part;
 mod refusal;
 mod source;
 mod stack;
-mod told;
 
 pub use builder::Builder;
 pub use factored::Factored;
@@ -28,4 +27,3 @@ pub use part::{Part, Step, expand};
 pub use refusal::Refusal;
 pub use source::Source;
 pub use stack::Stack;
-pub use told::Told;

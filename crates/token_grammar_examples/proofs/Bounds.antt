@@ -13,8 +13,8 @@ use Rattle.token_grammar_examples.specs.declared.symbol.Taker.TheVariants as tak
 use Rattle.token_grammar_examples.specs.declared.symbol.Rule.TheVariants.{Whole}
 use Rattle.token_grammar_examples.specs.Grammar.{expressions}
 use Rattle.token_grammar_examples.specs.Watching.{expression_watcher, look, closed, nothing_seen}
-use Rattle.token_grammar_examples.specs.Pieces.{pieces_in, with_more, seen_effect}
-use Rattle.token_grammar_examples.specs.PiecesLaw.{counted_is, opened_is, row_opened_is}
+use Rattle.token_grammar_examples.specs.Pieces.{pieces_in}
+use Rattle.token_grammar_examples.proofs.Seen.{with_more, seen_effect, counted_is, opened_is, row_opened_is}
 
 abbrev IsWithin : Count → Type 0
 IsWithin count = count.pieces ≤ MOST_PIECES

@@ -5,4 +5,3 @@ pub mod Values
 pub mod Effects
 pub mod EffectsLaw
 pub mod Pieces
-pub mod PiecesLaw

@@ -13,6 +13,6 @@ mod watch;
 pub use builder::ExpressionBuilder;
 pub use expression::Expression;
 pub use mark::Mark;
-pub use reader::{Counting, expressions_have_one_value, read_expression};
+pub use reader::{expressions_have_one_value, read_expression};
 pub use symbol::{Rule, Symbol, Taker};
 pub use watch::{Count, Fault, MOST_LEVELS, MOST_PIECES};

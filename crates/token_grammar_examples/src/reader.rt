@@ -19,7 +19,7 @@ use crate::symbol::Rule::Whole;
 use crate::symbol::Symbol::{self, Row};
 use crate::watch::{Count, Fault};
 use std::alloc::Global;
-use token_grammar::{Refusal, Told, build, seen_is_told, texts_have_one_value};
+use token_grammar::{Refusal, build, seen_is_told, texts_have_one_value};
 
 /// Reads the tokens as an expression. `Stopped` at the first number or row that is one too many or
 /// too deep.
@@ -33,7 +33,7 @@ pub fn read_expression(
     ensures refused { IfErr result (λ refusal. (seen : Count) × IsRefused expressions
         expression_watcher (row whole) nothing_seen tokens.now.items seen refusal) }
 {
-    seen_is_told::<Counting>();
+    seen_is_told::<Symbol, Vec<Mark>, ExpressionBuilder>();
     let mut count = Count {
         pieces: 0,
         level: 0,
@@ -54,50 +54,4 @@ pub fn expressions_have_one_value(tokens: &Vec<Mark>)
         first ≡ second }
 {
     texts_have_one_value::<Symbol, Vec<Mark>, ExpressionBuilder>();
-}
-
-/// The count of the watcher, told by the values.
-pub struct Counting;
-
-impl Told for Counting {
-    ghost use Rattle.token_grammar_examples.specs.declared.mark.Mark.{Mark};
-    ghost use Rattle.token_grammar_examples.specs.declared.symbol.Symbol.{Symbol};
-    ghost use Rattle.token_grammar_examples.specs.declared.watch.Count.{Count};
-    ghost use Rattle.token_grammar_examples.specs.declared.watch.Fault.{Fault};
-    ghost use Rattle.token_grammar_examples.specs.Grammar.{expressions, expression_plan};
-    ghost use Rattle.token_grammar_examples.specs.GrammarLaw.{expression_law};
-    ghost use Rattle.token_grammar_examples.specs.Values.{Value, expression_making};
-    ghost use Rattle.token_grammar_examples.specs.Watching.{expression_watcher};
-    ghost use Rattle.token_grammar_examples.specs.Pieces.{looks, seen_effect};
-    ghost use Rattle.token_grammar_examples.specs.PiecesLaw.{looks_agrees, pieces_telling};
-
-    ghost Token = { Mark };
-
-    ghost Part = { Symbol };
-
-    ghost Seen = { Count };
-
-    ghost Fault = { Fault };
-
-    ghost Store = { Unit {0} };
-
-    ghost grammar = { expressions };
-
-    ghost plan = { expression_plan };
-
-    ghost watcher = { expression_watcher };
-
-    ghost Value = { Value };
-
-    ghost making = { λ store. expression_making };
-
-    ghost looks = { λ store. looks };
-
-    ghost effect = { λ store. seen_effect };
-
-    ghost predictive = { expression_law };
-
-    ghost agrees = { λ store. looks_agrees };
-
-    ghost telling = { λ store. pieces_telling };
 }

@@ -1,8 +1,12 @@
+use Rattle.std.proofs.Common.{subst}
+use Rattle.token_grammar.specs.Answers.{IsAccepted}
+use Rattle.token_grammar.specs.Plan.{IsPredictive}
 use Rattle.token_grammar.proofs.Telling.{seen_value}
 use Rattle.token_grammar.proofs.law.seen_is_told.Goals as goal
 
 pub returns : goal.returns
-returns g c = λ store start before after ts value accepted spelled.
-    seen_value g.W.Told.grammar g.W.Told.plan g.W.Told.predictive g.W.Told.watcher g.W.Told.Value (g.W.Told.making store)
-    (g.W.Told.looks store) (g.W.Told.effect store) (g.W.Told.agrees store) (g.W.Told.telling store) start before after ts value
-    accepted spelled
+returns g c = λ tokens looks effect agrees telling start before after ts value accepted spelled.
+    seen_value g.B.Builder.grammar g.P.Part.plan
+    (subst (λ x. IsPredictive x g.P.Part.plan) g.met.B.Builder.reads g.met.P.Part.predictive) g.P.Part.watcher g.B.Builder.Value
+    (g.B.Builder.making tokens) looks effect agrees telling start before after ts value
+    (subst (λ x. IsAccepted x g.P.Part.watcher start before ts after) g.met.B.Builder.reads accepted) spelled

@@ -17,11 +17,49 @@ use Rattle.token_grammar_examples.specs.declared.mark.Mark.TheVariants as mark
 use Rattle.token_grammar_examples.specs.declared.symbol.Symbol as Symbol
 use Rattle.token_grammar_examples.specs.declared.symbol.Symbol.TheVariants.{Taken, Row}
 use Rattle.token_grammar_examples.specs.declared.symbol.Taker.TheVariants as taker
+use Rattle.token_grammar_examples.specs.declared.symbol.Rule as Rule
 use Rattle.token_grammar_examples.specs.declared.symbol.Rule.TheVariants.{Whole, Rest, Join, More, Operand, Negate, Atom, Members, Others, Add}
 use Rattle.token_grammar_examples.specs.Grammar.{expressions, takes, alternatives}
-use Rattle.token_grammar_examples.specs.Values.{Value, of_token, makers, with_rest, number_of, expression_making}
-use Rattle.token_grammar_examples.specs.Watching.{look, counted, opened, opened_after, row_opened}
-use Rattle.token_grammar_examples.specs.Pieces.{pieces_in, pieces_in_each, pieces_in_list, with_more, looks, seen_effect}
+use Rattle.token_grammar_examples.specs.Values.{RuleValue, Value, of_token, makers, with_rest, number_of, expression_making}
+use Rattle.token_grammar_examples.specs.Watching.{look, counted, opened, opened_after, row_opened, closed}
+use Rattle.token_grammar_examples.specs.Pieces.{pieces_in, pieces_in_each}
+
+-- the numbers and rows of a list of expressions
+abbrev pub pieces_in_list : List Expression → ℕ
+pieces_in_list [] = 0
+pieces_in_list (first ∷ rest) = pieces_in first + pieces_in_list rest
+
+-- so many numbers and rows more
+abbrev pub with_more : ℕ → Count → Count
+with_more n count = record count { pieces = count.pieces + n }
+
+-- what the watcher goes on to where it finds no fault
+abbrev pub looks : Symbol.Symbol → Mark.Mark → Count → Count
+looks (Taken taker.Number) t count = with_more 1 count
+looks (Taken taker.Open) t count = record count { level = count.level + 1 }
+looks (Taken taker.OpenRow) t count =
+    record count { pieces = count.pieces + 1; level = count.level + 1 }
+looks (Taken taker.Close) t count = closed count
+looks (Taken taker.CloseRow) t count = closed count
+looks _ t count = count
+
+-- how many more a rule's value has
+abbrev pub pieces_of : (rule : Rule.Rule) → RuleValue rule → ℕ
+pieces_of Whole expression = pieces_in expression
+pieces_of Operand expression = pieces_in expression
+pieces_of Atom expression = pieces_in expression
+pieces_of Rest list = pieces_in_list list
+pieces_of More list = pieces_in_list list
+pieces_of Members list = pieces_in_list list
+pieces_of Others list = pieces_in_list list
+pieces_of Join done = 0
+pieces_of Negate done = 0
+pieces_of Add done = 0
+
+-- what the watcher has seen after a part's value
+abbrev pub seen_effect : (p : Symbol.Symbol) → Value p → Count → Count
+seen_effect (Taken taker) t count = looks (Taken taker) t count
+seen_effect (Row rule) value count = with_more (pieces_of rule value) count
 
 -- the pieces of a list of expressions that stands in a row
 each_pieces : (list : List Expression) → pieces_in_each (hidden-the_row-Expression-1 list) ≡ pieces_in_list list
