@@ -21,8 +21,6 @@ mod printing;
 #[cfg(test)]
 mod tables;
 #[cfg(test)]
-mod texts;
-#[cfg(test)]
 mod trees;
 #[cfg(test)]
 mod words;

@@ -1,34 +1,33 @@
-use crate::texts::items_of;
-use logic_core::{Fof, Formula, Name, Problem, Role};
-use std::alloc::Global;
+use include_flat::flatten;
+use io_core::MemoryFiles;
+use logic_core::{Fof, Formula, Item, List, Name, Problem, Role};
 use std::test::Fail;
-use text_core::Bytes;
 use tptp_printer::{print_item, print_problem};
 
-/// The canonical texts of the items of a text, one behind another.
-fn printed(alloc: Global, text: &[u8]) -> Result<Bytes, Fail> {
-    let items = items_of(alloc, text)?;
-    let mut all = Bytes::new(alloc);
-    for item in items.as_slice() {
-        all.extend_from_slice(print_item(alloc, item)?.as_slice())?;
-    }
-    Ok(all)
+#[test]
+fn a_formula_is_printed_with_few_brackets(rt: HostRuntime) -> Result<(), Fail> {
+    let alloc = rt.alloc();
+    let mut files = MemoryFiles::new(alloc);
+    files.insert(b"x.p", b"fof(abc,axiom,(~ (a = b)) <= ((p & (q)))).")?;
+    let text = print_problem(alloc, &flatten(alloc, &mut files, b"x.p")?)?;
+    assert_eq!(rt;
+        text.as_slice(),
+        b"fof(abc,axiom,a != b <= (p & q)).\n".as_slice()
+    );
+    Ok(())
 }
 
 #[test]
-fn items_are_printed(rt: HostRuntime) -> Result<(), Fail> {
-    for (text, want) in [
-        // a formula with few brackets
-        (
-            b"fof(abc,axiom,(~ (a = b)) <= ((p & (q)))).".as_slice(),
-            b"fof(abc,axiom,a != b <= (p & q)).\n".as_slice(),
-        ),
-        // an inclusion with its selection
-        (b"include('b', [v]).", b"include('b',[v]).\n"),
-    ] {
-        let text = printed(rt.alloc(), text)?;
-        assert_eq!(rt; text.as_slice(), want);
-    }
+fn an_inclusion_is_printed_with_its_selection(rt: HostRuntime) -> Result<(), Fail> {
+    let alloc = rt.alloc();
+    let mut names = List::new(alloc);
+    names.push(Name::from_bytes(alloc, b"v")?)?;
+    let item = Item::Include {
+        file: Name::from_bytes(alloc, b"b")?,
+        only: Some(names),
+    };
+    let text = print_item(alloc, &item)?;
+    assert_eq!(rt; text.as_slice(), b"include('b',[v]).\n".as_slice());
     Ok(())
 }
 

@@ -2,7 +2,7 @@ use logic_core::{List, Memory};
 use std::alloc::Global;
 use std::test::Fail;
 use text_core::{MOST_APPLICATIONS, MOST_SPLITS};
-use vernacular_tree::{Body, End, Node, Proof, TreeRefusal};
+use vernacular_tree::{Node, Proof, TreeRefusal};
 
 fn mp(alloc: Global, form: u32, args: &[u32]) -> Result<Node, Memory> {
     Ok(Node::Mp {
@@ -80,20 +80,10 @@ fn split_goes_through_every_call(rt: HostRuntime) -> Result<(), Fail> {
     assert!(rt; are_split_nodes(&proof.to_nodes(alloc)?));
     let copy = proof.try_copy(alloc)?;
     assert_eq!(rt; copy.size(), 6);
+    assert_eq!(rt; copy.body().steps.len(), 1);
     let again = Proof::from_nodes(alloc, &copy.to_nodes(alloc)?)?;
     assert_eq!(rt; again.size(), 6);
     assert!(rt; are_split_nodes(&again.to_nodes(alloc)?));
-    Ok(())
-}
-
-#[test]
-fn one_application_is_a_proof(rt: HostRuntime) -> Result<(), Fail> {
-    let proof = Proof::new(Body {
-        steps: List::new(rt.alloc()),
-        end: End::Efq,
-    });
-    assert_eq!(rt; proof.size(), 1);
-    assert!(rt; matches!(&proof.body().end, End::Efq));
     Ok(())
 }
 
@@ -123,14 +113,14 @@ fn nest(alloc: Global, splits: u32) -> Result<List<Node>, Memory> {
 #[test]
 fn a_proof_has_at_most_so_many_applications_and_splits(rt: HostRuntime) -> Result<(), Fail> {
     let alloc = rt.alloc();
-    for (nodes, is_proof) in [
-        (row(alloc, MOST_APPLICATIONS - 1)?, true),
-        (row(alloc, MOST_APPLICATIONS)?, false),
-        (nest(alloc, MOST_SPLITS)?, true),
-        (nest(alloc, MOST_SPLITS + 1)?, false),
-    ] {
-        assert_eq!(rt; Proof::from_nodes(alloc, &nodes).is_ok(), is_proof);
-    }
+    let most = Proof::from_nodes(alloc, &row(alloc, MOST_APPLICATIONS - 1)?);
+    assert!(rt; most.is_ok());
+    let more = Proof::from_nodes(alloc, &row(alloc, MOST_APPLICATIONS)?);
+    assert!(rt; more.is_err());
+    let most = Proof::from_nodes(alloc, &nest(alloc, MOST_SPLITS)?);
+    assert!(rt; most.is_ok());
+    let more = Proof::from_nodes(alloc, &nest(alloc, MOST_SPLITS + 1)?);
+    assert!(rt; more.is_err());
     Ok(())
 }
 
