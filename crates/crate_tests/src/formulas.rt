@@ -17,7 +17,7 @@ fn a_term_is_copied(rt: HostRuntime) -> Result<(), Fail> {
 }
 
 #[test]
-fn items_and_problems_take_what_may_stand(rt: HostRuntime) -> Result<(), Fail> {
+fn items_and_problems_take_what_is_allowed(rt: HostRuntime) -> Result<(), Fail> {
     let alloc = rt.alloc();
     let mut items = Items::new(alloc);
     items.push(Item::Include {

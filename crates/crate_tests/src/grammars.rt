@@ -1,6 +1,6 @@
 use std::test::Fail;
 use text_core::List;
-use token_grammar::{Refusal, recognize};
+use token_grammar::{Refusal, Stack, Step, expand, recognize};
 use token_grammar_examples::Rule::Whole;
 use token_grammar_examples::Symbol::{Row, Taken};
 use token_grammar_examples::Taker::Number;
@@ -149,5 +149,26 @@ fn expressions_are_stopped(rt: HostRuntime) -> Result<(), Fail> {
             })
         )
     );
+    Ok(())
+}
+
+#[test]
+fn a_stack_gives_back_what_is_on_top(rt: HostRuntime) -> Result<(), Fail> {
+    let mut stack = Stack::new(rt.alloc());
+    stack.push(1u32)?;
+    stack.push(2)?;
+    assert_eq!(rt; stack.pop(), Some(2));
+    assert_eq!(rt; stack.pop_or(9), 1);
+    assert_eq!(rt; stack.pop_or(9), 9);
+    assert_eq!(rt; stack.pop(), None);
+    Ok(())
+}
+
+#[test]
+fn a_row_is_pushed_with_its_first_part_on_top(rt: HostRuntime) -> Result<(), Fail> {
+    let mut stack = vec![in rt.alloc(); 1u32]?;
+    let step = expand(&mut stack, &[2, 3, 4])?;
+    assert!(rt; matches!(step, Step::Expand));
+    assert_eq!(rt; stack.as_slice(), [1, 4, 3, 2].as_slice());
     Ok(())
 }

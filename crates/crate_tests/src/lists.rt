@@ -14,6 +14,11 @@ fn lists_keep_what_they_are_given(rt: HostRuntime) -> Result<(), Fail> {
     assert_eq!(rt; bytes.len(), 5);
     assert_eq!(rt; bytes.get(4).copied(), Some(b'e'));
     assert_eq!(rt; bytes.get(5).copied(), None);
+    bytes.truncate(9);
+    assert_eq!(rt; bytes.len(), 5);
+    bytes.truncate(3);
+    assert_eq!(rt; bytes.as_slice(), b"abc".as_slice());
+    bytes.extend_from_slice(b"de")?;
     let again = List::from_vec(bytes.into_vec());
     assert_eq!(rt; again.as_slice(), b"abcde".as_slice());
     Ok(())

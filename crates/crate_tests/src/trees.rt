@@ -2,7 +2,7 @@ use logic_core::{List, Memory};
 use std::alloc::Global;
 use std::test::Fail;
 use text_core::{MOST_APPLICATIONS, MOST_SPLITS};
-use vernacular_tree::{Node, Proof, TreeRefusal};
+use vernacular_tree::{Body, End, Node, Proof, TreeRefusal};
 
 fn mp(alloc: Global, form: u32, args: &[u32]) -> Result<Node, Memory> {
     Ok(Node::Mp {
@@ -84,6 +84,16 @@ fn split_goes_through_every_call(rt: HostRuntime) -> Result<(), Fail> {
     let again = Proof::from_nodes(alloc, &copy.to_nodes(alloc)?)?;
     assert_eq!(rt; again.size(), 6);
     assert!(rt; are_split_nodes(&again.to_nodes(alloc)?));
+    Ok(())
+}
+
+#[test]
+fn a_body_within_the_bounds_is_a_proof(rt: HostRuntime) -> Result<(), Fail> {
+    let body = Body {
+        steps: List::new(rt.alloc()),
+        end: End::Efq,
+    };
+    assert_eq!(rt; Proof::new(body).size(), 1);
     Ok(())
 }
 

@@ -1,7 +1,7 @@
 use std::alloc::{AllocError, Global};
 use std::fmt::Write;
 use std::test::Fail;
-use tptp_lexer::{Kind, LexRefusal, tokens};
+use tptp_lexer::{Kind, LexRefusal, is_integer, tokens};
 
 // The tokens of a text, each as its kind, its start and its end; or the refusal.
 fn told(alloc: Global, text: &str) -> Result<String, AllocError> {
@@ -175,5 +175,16 @@ fn refusals_shown(rt: HostRuntime) -> Result<(), Fail> {
         shown.as_str(),
         "BadByte OpenQuote OpenComment EmptyQuote Memory"
     );
+    Ok(())
+}
+
+#[test]
+fn integers_are_told(rt: HostRuntime) -> Result<(), Fail> {
+    for text in [b"0".as_slice(), b"12", b"+7", b"-30"] {
+        assert!(rt; is_integer(text));
+    }
+    for text in [b"".as_slice(), b"007", b"-", b"+01", b"1a", b"a"] {
+        assert!(rt; !is_integer(text));
+    }
     Ok(())
 }
