@@ -27,6 +27,7 @@ use Rattle.larus_cli.specs.Done.{Done, accepted, converted}
 use Rattle.larus_cli.specs.Answers.{Answer, done, refused, problem_refused, problem_not_built, too_long, no_tokens, no_proof, usage, fault}
 use Rattle.larus_cli.specs.Outcome.{Sinks, PutsTo, Outcome, answered, broken, out_of_memory, IsSettled, EndAlike}
 use Rattle.larus_cli.proofs.Saying.{names_check}
+use Rattle.larus_cli.proofs.Outcomes.{names_some}
 
 -- where an answer goes, its text, and its status
 record End : Type 0 where
@@ -116,13 +117,10 @@ module _ (held : Held) where
   OnWords words end = ((command_of words ≡ None) × (end ≡ on_errors usage_text 64)) ⊎
       ((problem : Text) × (second : Option Text) × (names_in (command_of words) words ≡ Some (problem, second)) × OnProblem end problem second)
 
-  no_names : (words : List Text) (names : Text × Option Text) → command_of words ≡ None → names_in (command_of words) words ≡ Some names → ⊥
-  no_names words names none are = let never = rw none at are in cc
-
   one_by_words : (words : List Text) (a b : End) → OnWords words a → OnWords words b → a ≡ b
   one_by_words words a b (inl (none, e)) (inl (also, f)) = e ∙ sym f
-  one_by_words words a b (inl (none, e)) (inr (problem, second, names, f)) = absurd (no_names words _ none names)
-  one_by_words words a b (inr (problem, second, names, e)) (inl (none, f)) = absurd (no_names words _ none names)
+  one_by_words words a b (inl (none, e)) (inr (problem, second, names, f)) = absurd (names_some words _ names none)
+  one_by_words words a b (inr (problem, second, names, e)) (inl (none, f)) = absurd (names_some words _ names none)
   one_by_words words a b (inr (problem, second, names, e)) (inr (other, another, also, f)) =
       let same = value_same (sym also ∙ names) in
       one_by_problem problem second a b e (subst (λ (n : Text × Option Text). OnProblem b n.0 n.1) same f)

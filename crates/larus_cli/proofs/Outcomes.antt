@@ -93,7 +93,7 @@ check_some words problem proof are = subst (λ ws. command_of ws ≡ None → �
 convert_some : (words : List Text) (problem : Text) → words ≡ convert_words problem → command_of words ≡ None → ⊥
 convert_some words problem are = subst (λ ws. command_of ws ≡ None → ⊥) (sym are) (λ none. cc)
 
-names_some : (words : List Text) (names : Text × Option Text) → names_in (command_of words) words ≡ Some names → command_of words ≡ None → ⊥
+pub names_some : (words : List Text) (names : Text × Option Text) → names_in (command_of words) words ≡ Some names → command_of words ≡ None → ⊥
 names_some words names are none = let never = rw none at are in cc
 
 done_some : {words : List Text} {files : Known} {text : Text} → Done words files text → command_of words ≡ None → ⊥
