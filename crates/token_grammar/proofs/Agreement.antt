@@ -13,7 +13,8 @@ use Rattle.token_grammar.specs.declared.refusal.Refusal.TheVariants.{Memory, Une
 use Rattle.token_grammar.proofs.Predicted.{Safe, predicted_taken, safe_replaced}
 use Rattle.token_grammar.proofs.Leaves.{by_chosen, by_token, leaves_start}
 use Rattle.token_grammar.proofs.Spelling.{taken_spelled, taken_begun, begun_taken}
-use Rattle.token_grammar.proofs.Reading.{take-next, all_taken, last_of-append}
+use Rattle.token_grammar.proofs.Reading.{last_of-append}
+use Rattle.text_core.proofs.Laws.{take_next, take_all}
 
 none_taken : {P T : Type 0} {g : Grammar P T} {whole : Bool} {row takers : List P} → Taken g whole row [] takers → takers ≡ []
 none_taken (stop h) = refl
@@ -130,7 +131,7 @@ module _ {P T S F : Type 0} (g : Grammar P T) (plan : Plan P T) (watcher : Watch
   stopped_barrier n fault s m h c =
       let (qs, now, clean) = clean_front (n + 1) m (omega arith) c in
       let (takers, between, taker, tok, at, first, taken, faulted) = s.found in
-      let next = take-next ts n tok at in
+      let next = take_next ts n tok at in
       let same = one_taking_of_text g plan law start false false (take n ts ++ (tok ∷ [])) qs (takers ++ (taker ∷ []))
       (subst (λ us. Taken g false (start ∷ []) us qs) next clean.taken) taken in
       let all = subst (λ us. Sees watcher before qs us now) next clean.seen in
@@ -151,7 +152,7 @@ module _ {P T S F : Type 0} (g : Grammar P T) (plan : Plan P T) (watcher : Watch
   whole_clean : (whole : Bool) (after : S) (takers : List P) → IsClean g watcher whole start before ts takers after → CleanTo (length ts)
   unfolding CleanTo
   whole_clean whole after takers clean =
-      let e = all_taken ts (length ts) (omega arith) in (
+      let e = take_all ts (length ts) (omega arith) in (
         takers,
         after,
         record {

@@ -12,7 +12,8 @@ use Rattle.token_grammar.specs.Step.Expanded.{here, further}
 use Rattle.token_grammar.specs.declared.refusal.Refusal.TheVariants.{Unexpected, Stopped, EndsEarly}
 use Rattle.token_grammar.specs.Answered.{HasAnswer}
 use Rattle.token_grammar.proofs.Predicted.{numbered_among, weight_replaced}
-use Rattle.token_grammar.proofs.Reading.{Reading, reading_start, reading_taken, reading_unexpected, reading_stopped, reading_accepted, reading_ended, take-next}
+use Rattle.token_grammar.proofs.Reading.{Reading, reading_start, reading_taken, reading_unexpected, reading_stopped, reading_accepted, reading_ended}
+use Rattle.text_core.proofs.Laws.{take_next}
 
 -- at the token a part of the row takes it, or none can
 abbrev HasMove : {P T : Type 0} → Grammar P T → Plan P T → T → List P → Type 0
@@ -90,7 +91,7 @@ module _ {P T S F : Type 0} (g : Grammar P T) (plan : Plan P T) (watcher : Watch
   }
   token_answered number row now last t at r later after (Some p) moves = elim (decided.does now p t) [
     | inl goes ↦ later after goes.0 (Some p) (subst (λ us. Reading g plan watcher start before us after goes.0 (Some p))
-        (sym (take-next ts number t at))
+        (sym (take_next ts number t at))
         (reading_taken g plan watcher law start before (take number ts) row after now goes.0 last t p r moves goes.1))
     | inr finds ↦ record {
       answer = Err (Stopped number finds.0);

@@ -17,6 +17,7 @@ use Rattle.token_grammar.proofs.Predicted.{Safe, implied, takes_alone, choices_p
 use Rattle.token_grammar.proofs.Leaves.{leaves_start}
 use Rattle.token_grammar.proofs.Spelling.{joined, join_spelled, taken_spelled}
 use Rattle.token_grammar.proofs.OfValues.{choice_among, element_among, first_spelled, value_spelled, row_spelled}
+use Rattle.text_core.proofs.Laws.{no_front}
 
 none_after_first : (number : Option ℕ) → is_first number ≡ true → one_less number ≡ None
 none_after_first None h = refl
@@ -27,10 +28,6 @@ choice_empty : {A : Type 0} (rows : List (List A)) (choice : Choice rows) → is
 choice_empty [] choice h = absurd choice
 choice_empty (row ∷ rows) (inl here) h = or_left _ _ h
 choice_empty (row ∷ rows) (inr choice) h = or_right _ _ (choice_empty rows choice h)
-
-no_tokens_left : {A : Type 0} (xs ys : List A) → xs ++ ys ≡ [] → xs ≡ []
-no_tokens_left [] ys e = refl
-no_tokens_left (x ∷ xs) ys e = cc
 
 module _ {P T : Type 0} (g : Grammar P T) (plan : Plan P T) where
   none_asks : (p : P) (t : T) (rows : List (List P)) → choice_passes g plan p t None rows ≡ true → (choice : Choice rows) →
@@ -120,7 +117,7 @@ module _ {P T : Type 0} (g : Grammar P T) (plan : Plan P T) (law : IsPredictive 
       let second_whole = subst (λ r. Taken g true r (others ++ left) (ps' ++ qs')) (append_assoc other row below) (joined g tail dl) in
       elim (same_alternative p (row ++ below) alternative other safe a b (us ++ vs) (ps ++ qs) (ps' ++ qs') first_whole
       (subst (λ all. Taken g true (other ++ (row ++ below)) all (ps' ++ qs')) (sym e) second_whole)) [
-        | inl none ↦ let mine = no_tokens_left us vs none in let theirs = no_tokens_left others left (sym e ∙ none) in mine ∙ sym theirs
+        | inl none ↦ let mine = no_front us vs none in let theirs = no_front others left (sym e ∙ none) in mine ∙ sym theirs
         | inr same ↦ split_once rest below vs qs
             (subst (Safe g plan) (sym (append_assoc alternative row below)) (safe_replaced g plan law p (row ++ below) alternative a safe))
             dv others left ps' qs' (subst (λ r. Taken g true (r ++ row) others ps') same tail) dl e

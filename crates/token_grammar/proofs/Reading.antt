@@ -1,5 +1,5 @@
 -- How far the machine has come: the tokens before one are taken and seen, and a row is left on the stack.
-use Rattle.std.proofs.Common.{◌≡◌, refl, sym, ◌∙◌, ap, subst, ℕ, zero, suc, ◌+◌, ◌≤◌, arith, Bool, true, false, ◌&&◌, List, [], ◌∷◌, ◌++◌, take, length, reverse, add-one}
+use Rattle.std.proofs.Common.{◌≡◌, refl, sym, ◌∙◌, ap, subst, ℕ, ◌≤◌, Bool, true, false, ◌&&◌, List, [], ◌∷◌, ◌++◌, take, length, reverse}
 use Rattle.std.specs.Prelude.{Option, Some, None, slice_get}
 use Rattle.std.specs.List.{list_all}
 use Rattle.std.proofs.lemmas.List.{reverse-append}
@@ -11,6 +11,7 @@ use Rattle.token_grammar.specs.Step.{Moves}
 use Rattle.token_grammar.specs.Answers.{last_of, IsClean, IsAccepted, IsUnexpected, IsStopped, IsEarlyEnd}
 use Rattle.token_grammar.proofs.Leaves.{Leaves, leaves_start, leaves_at, leaves_expanded, leaves_taken, leaves_refused, leaves_begun, leaves_ended, leaves_no_end}
 use Rattle.token_grammar.proofs.Spelling.{taken_spelled, spelled_taken, taken_begun, begun_taken}
+use Rattle.text_core.proofs.Laws.{take_next, take_all}
 
 -- one more token is seen
 pub sees_more : {P T S F : Type 0} (watcher : Watcher P T S F) (ps : List P) (ts : List T) (before now after : S) (p : P) (t : T) →
@@ -21,16 +22,13 @@ sees_more watcher (q ∷ ps) [] before now after p t seen h = absurd seen
 sees_more watcher (q ∷ ps) (u ∷ ts) before now after p t (between, first, rest) h =
     (between, first, sees_more watcher ps ts between now after p t rest h)
 
+-- the last member of a list with one more
 pub last_of-append : {A : Type 0} (xs : List A) (a : A) → last_of (xs ++ (a ∷ [])) ≡ Some a
 last_of-append [] a = refl
 last_of-append (x ∷ []) a = refl
 last_of-append (x ∷ y ∷ xs) a = last_of-append (y ∷ xs) a
 
-pub take-next : {A : Type 0} (xs : List A) (n : ℕ) (a : A) → slice_get xs n ≡ Some a → take (n + 1) xs ≡ take n xs ++ (a ∷ [])
-take-next [] n a h = cc
-take-next (x ∷ xs) zero a h = ap (λ o. o ∷ []) (let same : x ≡ a = cc in same)
-take-next (x ∷ xs) (suc n) a h = rw (add-one) (ap (λ ys. x ∷ ys) (rw add-one at (take-next xs n a h)))
-
+-- each member of a list with one more passes
 pub list_all-append : {A : Type 0} (test : A → Bool) (xs : List A) (a : A) → list_all test (xs ++ (a ∷ [])) ≡ (test a && list_all test xs)
 list_all-append test [] a = refl
 list_all-append test (x ∷ xs) a = rw (list_all-append test xs a) (swapped (test x) (test a) (list_all test xs))
@@ -41,17 +39,13 @@ list_all-append test (x ∷ xs) a = rw (list_all-append test xs a) (swapped (tes
     swapped false true z = refl
     swapped false false z = refl
 
+-- each member of a list passes, from whichever end
 list_all-reverse : {A : Type 0} (test : A → Bool) (xs : List A) → list_all test (reverse xs) ≡ list_all test xs
 list_all-reverse test [] = refl
 list_all-reverse test (x ∷ xs) =
     rw (reverse-append (x ∷ []) xs) (list_all-append test (reverse xs) x ∙ ap (λ b. test x && b) (list_all-reverse test xs))
 
-pub all_taken : {A : Type 0} (xs : List A) (n : ℕ) → length xs ≤ n → take n xs ≡ xs
-all_taken [] zero h = refl
-all_taken [] (suc n) h = refl
-all_taken (x ∷ xs) zero h = absurd (omega arith)
-all_taken (x ∷ xs) (suc n) h = ap (λ ys. x ∷ ys) (all_taken xs n (omega arith))
-
+-- each part of a row may be empty, from whichever end
 pub nullable-reverse : {P T : Type 0} (g : Grammar P T) (stack : List P) →
     all_nullable g (reverse stack) ≡ list_all (is_nullable g) stack
 nullable-reverse g stack = list_all-reverse (is_nullable g) stack
@@ -66,9 +60,11 @@ pub record Reading {P T S F : Type 0} (g : Grammar P T) (plan : Plan P T) (watch
 
 module _ {P T S F : Type 0} (g : Grammar P T) (plan : Plan P T) (watcher : Watcher P T S F) (law : IsPredictive g plan) (start : P)
     (before : S) where
+  -- nothing is read before the first token
   pub reading_start : Reading g plan watcher start before [] (start ∷ []) before None
   reading_start = record { takers = []; leaves = leaves_start g plan law start; seen = refl; ending = refl }
 
+  -- a token that a part takes is read
   pub reading_taken : (us : List T) (row after : List P) (now later : S) (last : Option P) (t : T) (p : P) →
       Reading g plan watcher start before us row now last → Moves g plan t row after (Some p) → watcher.sees now p t later →
       Reading g plan watcher start before (us ++ (t ∷ [])) after later (Some p)
@@ -81,10 +77,12 @@ module _ {P T S F : Type 0} (g : Grammar P T) (plan : Plan P T) (watcher : Watch
         ending = sym (last_of-append r.takers p);
       }
 
+  -- what is read is taken without a fault
   clean : (us : List T) (row : List P) (now : S) (last : Option P) (r : Reading g plan watcher start before us row now last) →
       IsClean g watcher false start before us r.takers now
   clean us row now last r = record { taken = leaves_begun g plan law start us r.takers row r.leaves; seen = r.seen }
 
+  -- a token that no part takes is unexpected
   pub reading_unexpected : (ts : List T) (number : ℕ) (row after : List P) (now : S) (last : Option P) (t : T) →
       slice_get ts number ≡ Some t → Reading g plan watcher start before (take number ts) row now last → Moves g plan t row after None →
       IsUnexpected g watcher start before ts now number last
@@ -95,12 +93,13 @@ module _ {P T S F : Type 0} (g : Grammar P T) (plan : Plan P T) (watcher : Watch
         first = record {
           within = slice_get_within ts number t at;
           begins = begun_taken g (leaves_begun g plan law start us r.takers row r.leaves);
-          refused = λ begun. let (takers, taken) = taken_begun g (rw (take-next ts number t at) at begun) in
+          refused = λ begun. let (takers, taken) = taken_begun g (rw (take_next ts number t at) at begun) in
               leaves_refused g plan law start us t r.takers stuck takers blocked at_t taken;
         };
         clean = (r.takers, clean us row now last r, r.ending);
       }
 
+  -- a token at which the watcher finds a fault stops the reading
   pub reading_stopped : (ts : List T) (number : ℕ) (row after : List P) (now : S) (last : Option P) (t : T) (p : P) (fault : F) →
       slice_get ts number ≡ Some t → Reading g plan watcher start before (take number ts) row now last →
       Moves g plan t row after (Some p) → watcher.faults now p t fault → IsStopped g watcher start before ts number fault
@@ -111,22 +110,25 @@ module _ {P T S F : Type 0} (g : Grammar P T) (plan : Plan P T) (watcher : Watch
       let taken = leaves_begun g plan law start (us ++ (t ∷ [])) (r.takers ++ (p ∷ [])) after next in
       record {
         within = slice_get_within ts number t at;
-        begins = rw (take-next ts number t at) (begun_taken g taken);
+        begins = rw (take_next ts number t at) (begun_taken g taken);
         found = (r.takers, now, p, t, at, clean us row now last r, taken, h);
       }
 
+  -- tokens that are read are accepted where each part that is left may be empty
   accepted : (ts : List T) (row : List P) (now : S) (last : Option P) → all_nullable g row ≡ true →
       Reading g plan watcher start before ts row now last → IsAccepted g watcher start before ts now
   accepted ts row now last empty r =
       let taken = leaves_ended g plan law start ts r.takers row empty r.leaves in
       record { text = spelled_taken g taken; clean = (r.takers, record { taken = taken; seen = r.seen }) }
 
+  -- all tokens are accepted where each part on the stack may be empty
   pub reading_accepted : (ts : List T) (number : ℕ) (stack : List P) (now : S) (last : Option P) → length ts ≤ number →
       list_all (is_nullable g) stack ≡ true → Reading g plan watcher start before (take number ts) (reverse stack) now last →
       IsAccepted g watcher start before ts now
   reading_accepted ts number stack now last end empty r =
-      accepted ts (reverse stack) now last (nullable-reverse g stack ∙ empty) (rw (all_taken ts number end) at r)
+      accepted ts (reverse stack) now last (nullable-reverse g stack ∙ empty) (rw (take_all ts number end) at r)
 
+  -- tokens that are read end early where some part that is left may not be empty
   ended : (ts : List T) (row : List P) (now : S) (last : Option P) → all_nullable g row ≡ false →
       Reading g plan watcher start before ts row now last → IsEarlyEnd g watcher start before ts now
   ended ts row now last filled r = record {
@@ -138,8 +140,9 @@ module _ {P T S F : Type 0} (g : Grammar P T) (plan : Plan P T) (watcher : Watch
     clean = (r.takers, clean ts row now last r);
   }
 
+  -- all tokens end early where some part on the stack may not be empty
   pub reading_ended : (ts : List T) (number : ℕ) (stack : List P) (now : S) (last : Option P) → length ts ≤ number →
       list_all (is_nullable g) stack ≡ false → Reading g plan watcher start before (take number ts) (reverse stack) now last →
       IsEarlyEnd g watcher start before ts now
   reading_ended ts number stack now last end filled r =
-      ended ts (reverse stack) now last (nullable-reverse g stack ∙ filled) (rw (all_taken ts number end) at r)
+      ended ts (reverse stack) now last (nullable-reverse g stack ∙ filled) (rw (take_all ts number end) at r)

@@ -1,5 +1,5 @@
 -- A part that stands for rows of another grammar takes what one of them takes.
-use Rattle.std.proofs.Common.{◌≡◌, refl, sym, ◌∙◌, ap, subst, Bool, true, false, ◌⊎◌, inl, inr, List, [], ◌∷◌, ◌++◌, append_assoc}
+use Rattle.std.proofs.Common.{◌≡◌, refl, sym, ◌∙◌, ap, subst, Bool, true, false, inl, inr, List, [], ◌∷◌, ◌++◌, append_assoc}
 use Rattle.std.specs.Prelude.{IsFalse}
 use Rattle.std.proofs.lemmas.Bool.{true≢false}
 use Rattle.token_grammar.specs.Grammar.{Grammar, IsText, BeginsText}
@@ -10,51 +10,43 @@ use Rattle.token_grammar.specs.Plan.{is_empty}
 use Rattle.token_grammar.specs.Factored.{after_row, joined_rows, stood_rows, Becomes, OneBecomes, EachIsMade, AlternativesAreMade, Translates}
 use Rattle.token_grammar.specs.Factored.Becomes.{done, keep, replace}
 use Rattle.token_grammar.proofs.Spelling.{joined, taken_spelled, spelled_taken, taken_begun, begun_taken}
+use Rattle.text_core.proofs.Laws.{among_front, among_back, among_append}
 
 -- rows that are joined
 
+-- a member of the rows, behind the first row
 after_among : {Q : Type 0} (first row : List Q) (rows : List (List Q)) → IsAmong row rows → IsAmong (first ++ row) (after_row first rows)
 after_among first row [] a = a
 after_among first row (other ∷ rows) (inl e) = inl (ap (λ r. first ++ r) e)
 after_among first row (other ∷ rows) (inr a) = inr (after_among first row rows a)
 
-among_left : {A : Type 0} (a : A) (xs ys : List A) → IsAmong a xs → IsAmong a (xs ++ ys)
-among_left a [] ys h = absurd h
-among_left a (x ∷ xs) ys (inl e) = inl e
-among_left a (x ∷ xs) ys (inr h) = inr (among_left a xs ys h)
-
-among_right : {A : Type 0} (a : A) (xs ys : List A) → IsAmong a ys → IsAmong a (xs ++ ys)
-among_right a [] ys h = h
-among_right a (x ∷ xs) ys h = inr (among_right a xs ys h)
-
+-- a member of each list of rows, one behind the other
 joined_among : {Q : Type 0} (first row : List Q) (firsts rows : List (List Q)) → IsAmong first firsts → IsAmong row rows →
     IsAmong (first ++ row) (joined_rows firsts rows)
 joined_among first row [] rows a b = a
 joined_among first row (other ∷ firsts) rows (inl e) b =
-    among_left (first ++ row) (after_row other rows) (joined_rows firsts rows)
+    among_front (first ++ row) (after_row other rows) (joined_rows firsts rows)
     (subst (λ r. IsAmong (r ++ row) (after_row other rows)) e (after_among other row rows b))
 joined_among first row (other ∷ firsts) rows (inr a) b =
-    among_right (first ++ row) (after_row other rows) (joined_rows firsts rows) (joined_among first row firsts rows a b)
+    among_back (first ++ row) (after_row other rows) (joined_rows firsts rows) (joined_among first row firsts rows a b)
 
-among_either : {A : Type 0} (a : A) (xs ys : List A) → IsAmong a (xs ++ ys) → IsAmong a xs ⊎ IsAmong a ys
-among_either a [] ys h = inr h
-among_either a (x ∷ xs) ys (inl e) = inl (inl e)
-among_either a (x ∷ xs) ys (inr h) = elim (among_either a xs ys h) [ inl k ↦ inl (inr k) | inr k ↦ inr k ]
-
+-- a row behind the first row is that row and a member of the rows
 after_split : {Q : Type 0} (all first : List Q) (rows : List (List Q)) → IsAmong all (after_row first rows) →
     (row : List Q) × IsAmong row rows × (all ≡ first ++ row)
 after_split all first [] a = absurd a
 after_split all first (row ∷ rows) (inl e) = (row, inl refl, sym e)
 after_split all first (row ∷ rows) (inr a) = let (found, b, e) = after_split all first rows a in (found, inr b, e)
 
+-- a row of joined rows is a member of the one list and a member of the other
 joined_split : {Q : Type 0} (all : List Q) (firsts rows : List (List Q)) → IsAmong all (joined_rows firsts rows) →
     (first : List Q) × (row : List Q) × IsAmong first firsts × IsAmong row rows × (all ≡ first ++ row)
 joined_split all [] rows a = absurd a
-joined_split all (first ∷ firsts) rows a = elim (among_either all (after_row first rows) (joined_rows firsts rows) a) [
+joined_split all (first ∷ firsts) rows a = elim (among_append all (after_row first rows) (joined_rows firsts rows) a) [
   | inl h ↦ let (row, b, e) = after_split all first rows h in (first, row, inl refl, b, e)
   | inr h ↦ let (found, row, b, d, e) = joined_split all firsts rows h in (found, row, inr b, d, e)
 ]
 
+-- a row that two rows stand for is one of the first and one of the second
 stood_split : {P Q : Type 0} (stands : P → List (List Q)) (row below : List P) (all : List Q) →
     IsAmong all (stood_rows stands (row ++ below)) →
     (first : List Q) × (second : List Q) × IsAmong first (stood_rows stands row) × IsAmong second (stood_rows stands below) × (all ≡ first ++ second)
@@ -69,18 +61,21 @@ stood_split stands (p ∷ row) below all a =
       (e ∙ ap (λ r. head ++ r) f) ∙ sym (append_assoc head first second),
     )
 
+-- some member of rows that are not empty
 one_row : {A : Type 0} (rows : List A) → IsFalse (is_empty rows) → (row : A) × IsAmong row rows
 one_row [] h = absurd (true≢false h)
 one_row (row ∷ rows) h = (row, inl refl)
 
 -- a row that becomes another takes what that takes
 
+-- what may be left of a row does not hang on what follows its first part
 may_leave_any : {Q : Type 0} (whole : Bool) (q : Q) (row other : List Q) → MayLeave whole (q ∷ row) → MayLeave whole (q ∷ other)
 may_leave_any true q row other h = absurd h
 may_leave_any false q row other h = tt
 
 module _ {Q T : Type 0} (h : Grammar Q T) (whole : Bool) (row other : List Q)
     (turn : (ts : List T) (takers : List Q) → Taken h whole other ts takers → Taken h whole row ts takers) where
+  -- what takes the tokens behind a front takes them with another row behind it
   kept : {all : List Q} {ts : List T} {takers : List Q} → Taken h whole all ts takers → (front : List Q) → all ≡ front ++ other →
       Taken h whole (front ++ row) ts takers
   kept {ts = ts} {takers = takers} taken [] e = turn ts takers (subst (λ r. Taken h whole r ts takers) e taken)
@@ -97,6 +92,7 @@ module _ {Q T : Type 0} (h : Grammar Q T) (whole : Bool) (row other : List Q)
       subst (λ x. Taken h whole (x ∷ (front ++ row)) ts takers) one
       (part alternative a (subst (λ r. Taken h whole r ts takers) (append_assoc alternative front row) further))
 
+-- the row that becomes another takes what the other takes
 becomes_taken : {Q T : Type 0} (h : Grammar Q T) (whole : Bool) {row other : List Q} (below : List Q) → Becomes h row other →
     (ts : List T) (takers : List Q) → Taken h whole (other ++ below) ts takers → Taken h whole (row ++ below) ts takers
 becomes_taken h whole below done ts takers taken = taken
@@ -108,18 +104,21 @@ becomes_taken h whole below (replace {q = q} {row = row} alternative a rest) ts 
 
 -- what stands for a row
 
+-- the one of the rows that becomes the other row
 one_becomes : {Q T : Type 0} (h : Grammar Q T) (rows : List (List Q)) (other : List Q) → OneBecomes h rows other →
     (row : List Q) × IsAmong row rows × Becomes h row other
 one_becomes h [] other b = absurd b
 one_becomes h (row ∷ rows) other (inl b) = (row, inl refl, b)
 one_becomes h (row ∷ rows) other (inr b) = let (found, a, k) = one_becomes h rows other b in (found, inr a, k)
 
+-- a member of the rows that are made is made of one of the rows
 each_made : {Q T : Type 0} (h : Grammar Q T) (rows others : List (List Q)) (other : List Q) → EachIsMade h rows others →
     IsAmong other others → OneBecomes h rows other
 each_made h rows [] other made a = absurd a
 each_made h rows (first ∷ others) other made (inl e) = subst (OneBecomes h rows) e made.0
 each_made h rows (first ∷ others) other made (inr a) = each_made h rows others other made.1 a
 
+-- a row that an alternative stands for is made of one of the rows
 alternative_made : {P Q T : Type 0} (h : Grammar Q T) (stands : P → List (List Q)) (rows : List (List Q)) (alternatives : List (List P))
     (alternative : List P) → AlternativesAreMade h stands rows alternatives → IsAmong alternative alternatives →
     EachIsMade h rows (stood_rows stands alternative)
@@ -129,6 +128,7 @@ alternative_made h stands rows (first ∷ rest) alternative made (inl e) =
 alternative_made h stands rows (first ∷ rest) alternative made (inr a) = alternative_made h stands rows rest alternative made.1 a
 
 module _ {P Q T : Type 0} (g : Grammar P T) (h : Grammar Q T) (stands : P → List (List Q)) (tr : Translates g h stands) where
+  -- some row that a row stands for
   some_row : (row : List P) → (other : List Q) × IsAmong other (stood_rows stands row)
   some_row [] = ([], inl refl)
   some_row (p ∷ row) =
@@ -136,6 +136,7 @@ module _ {P Q T : Type 0} (g : Grammar P T) (h : Grammar Q T) (stands : P → Li
       let (rest, b) = some_row row in
       (first ++ rest, joined_among first rest (stands p) (stood_rows stands row) a b)
 
+  -- one of the rows that a row stands for takes what the row takes
   translated : {whole : Bool} {row : List P} {ts : List T} {takers : List P} → Taken g whole row ts takers →
       (other : List Q) × (others : List Q) × IsAmong other (stood_rows stands row) × Taken h whole other ts others
   translated {whole = true} {row = []} (stop leave) = ([], [], inl refl, stop tt)
@@ -171,18 +172,21 @@ module _ {P Q T : Type 0} (g : Grammar P T) (h : Grammar Q T) (stands : P → Li
       only x y (inl e) = sym e
       only x y (inr h) = absurd h
 
+  -- the start of the other grammar takes what the start takes
   taken_start : (start : P) (other : Q) (whole : Bool) (ts : List T) (takers : List P) → stands start ≡ (other ∷ []) ∷ [] →
       Taken g whole (start ∷ []) ts takers → (others : List Q) × Taken h whole (other ∷ []) ts others
   taken_start start other whole ts takers e taken =
       let (row, others, a, also) = translated taken in
       (others, subst (λ r. Taken h whole r ts others) (only_start start other row e a) also)
 
+  -- a text of the grammar is a text of the other
   pub text_translated : (start : P) (other : Q) → stands start ≡ (other ∷ []) ∷ [] → (ts : List T) → IsText g start ts → IsText h other ts
   text_translated start other e ts text =
       let (takers, taken) = taken_spelled g text in
       let (others, also) = taken_start start other true ts takers e taken in
       spelled_taken h also
 
+  -- what begins a text of the grammar begins one of the other
   pub begun_translated : (start : P) (other : Q) → stands start ≡ (other ∷ []) ∷ [] → (ts : List T) → BeginsText g start ts → BeginsText h other ts
   begun_translated start other e ts begun =
       let (takers, taken) = taken_begun g begun in

@@ -1,8 +1,9 @@
 use Rattle.std.proofs.Common.{◌≤◌, [], ◌∷◌, length, take, reverse, ◌∙◌, sym, arith, append-nil}
-use Rattle.token_grammar.proofs.Reading.{reading_unexpected, reading_stopped, reading_taken, reading_accepted, reading_ended, all_taken, take-next}
+use Rattle.token_grammar.proofs.Reading.{reading_unexpected, reading_stopped, reading_taken, reading_accepted, reading_ended}
 use Rattle.token_grammar.proofs.Acting.{continues_taken}
 use Rattle.token_grammar.proofs.Built.{built}
 use Rattle.token_grammar.proofs.machine.build.Goals as goal
+use Rattle.text_core.proofs.Laws.{take_next, take_all}
 
 pub returns-in-None-clause-refused : goal.returns-in-None-clause-refused
 returns-in-None-clause-refused g c =
@@ -22,7 +23,7 @@ returns-in-Err-clause-refused g c =
 
 pub loop-number-preserved : goal.loop-number-preserved
 loop-number-preserved g c =
-    let next = take-next (g.S.Source.marks c.args.tokens.now) c.loop-number.number c.mark-token.result c.mark-token.ensures in (
+    let next = take_next (g.S.Source.marks c.args.tokens.now) c.loop-number.number c.mark-token.result c.mark-token.ensures in (
       rw next (reading_taken g.P.Part.grammar g.P.Part.plan g.P.Part.watcher g.met.P.Part.predictive c.args.start
           (g.P.Part.seen c.args.watch.now) (take c.loop-number.number (g.S.Source.marks c.args.tokens.now))
           (reverse c.loop-number.stack.items) (reverse c.take_token.new.stack.items) (g.P.Part.seen c.loop-number.watch)
@@ -63,4 +64,4 @@ returns-then-leaves_nothing-clause-value g c =
     built g.B.Builder.grammar g.B.Builder.Value (g.B.Builder.making c.args.tokens.now) (g.B.Builder.takes c.args.tokens.now)
     g.B.Builder.passes (g.B.Builder.effect c.args.tokens.now) (g.met.B.Builder.building c.args.tokens.now) c.args.start
     (g.S.Source.marks c.args.tokens.now) (g.B.Builder.built c.args.builder.now) (g.B.Builder.built c.pass_rest.new.builder)
-    (rw (append-nil, all_taken (g.S.Source.marks c.args.tokens.now) c.loop-number.number end) at acted)
+    (rw (append-nil, take_all (g.S.Source.marks c.args.tokens.now) c.loop-number.number end) at acted)
