@@ -1,11 +1,12 @@
-//! Takes two large trees through the calls of `Proof`, as often as the word says, or once: 65,536
-//! rule applications in a row, and 200 splits within one another. Prints how many applications each
-//! has.
+//! Takes two large trees through the calls of `Proof`, as often as the word says, or once: as many
+//! rule applications in a row as a proof may have, and as many splits within one another. Prints
+//! how many applications each has.
 
 use crate::number;
 use anyhow::Error;
 use logic_core::{List, Memory};
 use std::alloc::Global;
+use text_core::{MOST_APPLICATIONS, MOST_SPLITS};
 use vernacular_tree::{Node, Proof, TreeRefusal};
 
 fn push_step(alloc: Global, nodes: &mut List<Node>) -> Result<(), Memory> {
@@ -25,7 +26,7 @@ fn push_answer(alloc: Global, nodes: &mut List<Node>) -> Result<(), Memory> {
 /// As many applications as a proof may have, without a split.
 fn row(alloc: Global) -> Result<List<Node>, Memory> {
     let mut nodes = List::new(alloc);
-    for _ in 0..65535 {
+    for _ in 1..MOST_APPLICATIONS {
         push_step(alloc, &mut nodes)?;
     }
     push_answer(alloc, &mut nodes)?;
@@ -36,7 +37,7 @@ fn row(alloc: Global) -> Result<List<Node>, Memory> {
 /// branches.
 fn nest(alloc: Global) -> Result<List<Node>, Memory> {
     let mut nodes = List::new(alloc);
-    for _ in 0..200 {
+    for _ in 0..MOST_SPLITS {
         for _ in 0..300 {
             push_step(alloc, &mut nodes)?;
         }

@@ -113,7 +113,7 @@ chained c (more_of-Formula g (more_of-Formula h rest)) level f ts is two k = cha
 
 mutual
   -- a formula inside another one, where so many levels are open
-  unit : (f : Formula) (scope : List Text) (level : ℕ) → IsNamed f → IsBoundIn scope f → depth f + level ≤ 200 → Gives NoWord (in_unit f (formula_text f)) (SpellsUnitary level f)
+  unit : (f : Formula) (scope : List Text) (level : ℕ) → IsNamed f → IsBoundIn scope f → depth f + level ≤ MOST_LEVELS → Gives NoWord (in_unit f (formula_text f)) (SpellsUnitary level f)
   unit True scope level n b d = seen (λ ts s. truth true s.0 s.1 s.2 refl s.3) (dollar_word (codes "true") refl)
   unit False scope level n b d = seen (λ ts s. truth false s.0 s.1 s.2 refl s.3) (dollar_word (codes "false") refl)
   unit (Pred p ts) scope level n b d = atom_piece level scope p ts n b
@@ -131,13 +131,13 @@ mutual
       (quantifies level kind.Question (codes "? ") xs g (in_unit g (formula_text g)) question b.0 (unit g (xs ++ scope) (level + 1) n b.1 (omega arith)))
 
   -- the members of a chain
-  members : {n : _} (row : Row_of-Formula n) (k : Kind) (sign : Text) → Gives Any sign (IsOne k) → ((rest : Text) → NoWord (sign ++ rest)) → (scope : List Text) (level : ℕ) → EachIsNamed row → EachIsBoundIn scope row → greatest_depth row + level ≤ 200 → Gives NoWord (chain_text sign row) (Chained k level row)
+  members : {n : _} (row : Row_of-Formula n) (k : Kind) (sign : Text) → Gives Any sign (IsOne k) → ((rest : Text) → NoWord (sign ++ rest)) → (scope : List Text) (level : ℕ) → EachIsNamed row → EachIsBoundIn scope row → greatest_depth row + level ≤ MOST_LEVELS → Gives NoWord (chain_text sign row) (Chained k level row)
   members end_of-Formula k sign p follows scope level n b d = before (λ rest may. tt) nothing
   members (more_of-Formula g end_of-Formula) k sign p follows scope level n b d = seen (λ ts s. (ts, [], s, end, sym (append-nil ts))) (unit g scope level n.0 b.0 (omega arith))
   members (more_of-Formula g (more_of-Formula h rest)) k sign p follows scope level n b d = seen (one_more k level g h rest) (followed (followed (unit g scope level n.0 b.0 (omega arith)) p (λ rest may. follows rest)) (members (more_of-Formula h rest) k sign p follows scope level n.1 b.1 (omega arith)) (λ rest may. tt))
 
 -- a whole formula
-pub whole : (f : Formula) (scope : List Text) (level : ℕ) → IsNamed f → IsBoundIn scope f → nesting f + level ≤ 200 → Gives NoWord (formula_text f) (SpellsFormula level f)
+pub whole : (f : Formula) (scope : List Text) (level : ℕ) → IsNamed f → IsBoundIn scope f → nesting f + level ≤ MOST_LEVELS → Gives NoWord (formula_text f) (SpellsFormula level f)
 whole (And' s row) scope level n b d = seen (λ ts c. chained conjunction row level (And' s row) ts (as_built (And' s row)) b.0 c) (members row kind.Ampersand (codes " & ") ampersand (λ rest. refl) scope level n b.1 d)
 whole (Or' s row) scope level n b d = seen (λ ts c. chained disjunction row level (Or' s row) ts (as_built (Or' s row)) b.0 c) (members row kind.Bar (codes " | ") bar (λ rest. refl) scope level n b.1 d)
 whole (Binary' o s (more_of-Formula g r) z (more_of-Formula h q)) scope level n b d = binary_piece level (Binary' o s (more_of-Formula g r) z (more_of-Formula h q)) o g h (in_unit g (formula_text g)) (in_unit h (formula_text h)) (as_built (Binary' o s (more_of-Formula g r) z (more_of-Formula h q))) (unit g scope level n.0 b.0 (omega arith)) (unit h scope level n.1 b.1 (omega arith))
