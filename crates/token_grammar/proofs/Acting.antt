@@ -41,6 +41,7 @@ module _ {P T B : Type 0} (g : Grammar P T) (takes : P → T → B → B) (passe
       goes ts after (subst (λ row. Acted g takes passes row now ts after) (sym (ap reverse popped ∙ on_top below p))
       (replaced q rest among (subst (λ row. Acted g takes passes row now ts after) pushed acted)))
 
+-- the length of a stack onto which a row was pushed
 length_pushed : {P : Type 0} (below row : List P) → length (below ++ reverse row) ≡ length below + length row
 length_pushed below row = length-append below (reverse row) ∙ ap (λ n. length below + n) (length-reverse row)
 

@@ -63,6 +63,7 @@ blank_after follows p = gap_after 32 refl follows p
 blank_before : {may : Text → Type 0} {text : Text} {S : List Token → Type 0} → Gives may text S → Gives may (codes " " ++ text) S
 blank_before {S = S} p = seen (λ ts s. subst S (sym (s.4 ∙ ap (λ (us : List Token). us ++ s.1) s.2)) s.3) (followed (one_blank 32 refl) p (λ rest may. tt))
 
+-- the signs that are printed with a blank behind, or on both sides
 pub tilde : Gives Any (codes "~ ") (IsOne kind.Tilde)
 unfolding kind_of
 tilde = blank_after (λ rest. refl) (led_sign kind.Tilde (codes "~") refl (λ cs. refl))
