@@ -18,11 +18,13 @@ use Rattle.include_flat.specs.Progress.{PassesOver, RefusesOver, over_file, AreA
 use Rattle.include_flat.proofs.Told.{where_told}
 use Rattle.include_flat.proofs.Passing.{refuses_so}
 
+-- selections that are alike stay so with one more
 further : (only : Option (List Text)) (selections others : Selections) → AreAlike selections others →
     AreAlike (with_selection only selections) (with_selection only others)
 further None selections others h = h
 further (Some names) selections others h = record { alike = λ name. ap (λ b. list_any (bytes_eq name) names && b) (h.alike name) }
 
+-- selections that are alike keep a formula, or leave it out, alike
 entries_alike : (file : Text) (selections others : Selections) (fof : Fof) → AreAlike selections others →
     kept_entries file selections fof ≡ kept_entries file others fof
 entries_alike file selections others fof h = ap (λ (test : Bool). cond test (kept file fof ∷ []) []) (h.alike fof.name)

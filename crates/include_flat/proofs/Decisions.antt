@@ -6,6 +6,7 @@ use Rattle.include_flat.specs.Walks.Entry.{fetched, kept, missing, stop}
 use Rattle.include_flat.specs.Progress.{bytes_of}
 use Rattle.include_flat.specs.Flattened.{Decision, decision_after, kept_of}
 
+-- a decision stays where the rest gives way to one that decides the same
 later_decided : (test : Bool) (first x y : Option Decision) (d : Decision) → (x ≡ Some d → y ≡ Some d) → cond test first x ≡ Some d →
     cond test first y ≡ Some d
 later_decided true first x y d later e = e
@@ -24,6 +25,7 @@ decided_front bytes formulas (kept file fof ∷ front) rest d e =
     later_decided (nat_le MOST_FORMULAS formulas) _ (decision_after bytes (formulas + 1) front) _ d
     (decided_front bytes (formulas + 1) front rest d) e
 
+-- where neither the test nor the first rest decides, the answer is that of the second rest
 later : (test : Bool) (d : Decision) (x y : Option Decision) (z : Option Decision) → (x ≡ None → y ≡ z) → cond test (Some d) x ≡ None →
     cond test (Some d) y ≡ z
 later true d x y z then e = absurd cc

@@ -36,6 +36,7 @@ asked held name left selections _ (not_held none) = (missing name, [], not_held 
 asked held name left selections _ (too_long bytes is long) = (stop name FileTooLong, [], too_long bytes is long, refl)
 asked held name left selections _ (read {entries = rest} bytes is short walk) = (fetched name (length bytes), rest, read bytes is short walk, refl)
 
+-- the walk over a file that is too long is refused
 long_refused : (held : Held) (name : Text) (before : Walked) (left : ℕ) (selections : Selections) (found : Option Text) → finite.get held name ≡ found →
     IsSomeAnd found (λ bytes. MOST_FILE_BYTES < length bytes) → Refuses (WalksFile held (suc left) selections name) before name FileTooLong
 long_refused held name before left selections None e long = absurd long
@@ -56,9 +57,11 @@ long_refused_at held name before long = record {
   anywhere = λ left selections. long_refused held name before left selections (finite.get held name) refl long;
 }
 
+-- the test of too many bytes is true where they are too many
 over : (before : Walked) (n : ℕ) → MOST_PROBLEM_BYTES < before.bytes + n → nat_lt MOST_PROBLEM_BYTES (before.bytes + n) ≡ true
 over before n many = grind (arith, nat_tests)
 
+-- the test of too many bytes is false where they are not too many
 within : (before : Walked) (n : ℕ) → before.bytes + n ≤ MOST_PROBLEM_BYTES → nat_lt MOST_PROBLEM_BYTES (before.bytes + n) ≡ false
 within before n few = grind (arith, nat_tests)
 
@@ -95,6 +98,7 @@ text_refused_at held name bytes before AllTooLong is short few h = absurd h
 text_refused_at held name bytes before IncludeDepth is short few h = absurd h
 text_refused_at held name bytes before TooManyFormulas is short few h = absurd h
 
+-- what the refusal of a text leaves, where no fetch failed
 text_leaves : (files later : Known) (name bytes : Text) (why : FlatWhy) → Stays files later → IsTextRefusal bytes why → Leaves files later name why
 text_leaves files later name bytes (Lex refusal) stays h = stays
 text_leaves files later name bytes (Syntax refusal) stays h = stays
@@ -105,6 +109,7 @@ text_leaves files later name bytes AllTooLong stays h = absurd h
 text_leaves files later name bytes IncludeDepth stays h = absurd h
 text_leaves files later name bytes TooManyFormulas stays h = absurd h
 
+-- a file whose bytes are a text of items, and not too many, opens to the items
 opens_at : (held : Held) (name bytes : Text) (items : List Item) (before after : Walked) → finite.get held name ≡ Some bytes → length bytes ≤ MOST_FILE_BYTES →
     before.bytes + length bytes ≤ MOST_PROBLEM_BYTES → AreBytesOf bytes items → after.bytes ≡ before.bytes + length bytes →
     after.problem ≡ before.problem → OpensTo held name items before after
@@ -194,4 +199,5 @@ module _ (files later : Known) (name : Text) (before : Walked) where
     opens = where_told files.held _ _ (λ held is. opens_at held name bytes items before after is h.within few text counted problem) h.held;
   }
 
+-- the rules for a file that is opened or refused
 pub ruleset openings = (fetch_refused, count_refused, text_refused, file_opened)

@@ -25,6 +25,7 @@ use Rattle.include_flat.proofs.Told.{where_told, wherever_told, both_told, leave
 use Rattle.include_flat.proofs.Decisions.{decided_front, undecided_front}
 use Rattle.include_flat.proofs.SomeWalk.{some_walk_of_items}
 
+-- the bytes of two lists of entries, one behind the other
 bytes_of-append : (front rest : List Entry) → bytes_of (front ++ rest) ≡ bytes_of front + bytes_of rest
 bytes_of-append [] rest = omega arith
 bytes_of-append (fetched file n ∷ front) rest = let e = bytes_of-append front rest in omega arith
@@ -32,6 +33,7 @@ bytes_of-append (kept file fof ∷ front) rest = bytes_of-append front rest
 bytes_of-append (missing file ∷ front) rest = bytes_of-append front rest
 bytes_of-append (stop file why ∷ front) rest = bytes_of-append front rest
 
+-- the formulas kept by two lists of entries, one behind the other
 kept_of-append : (front rest : List Entry) → kept_of (front ++ rest) ≡ kept_of front ++ kept_of rest
 kept_of-append [] rest = refl
 kept_of-append (fetched file n ∷ front) rest = kept_of-append front rest
@@ -46,9 +48,11 @@ decided_on before middle front rest p =
     undecided_front before.bytes (length before.problem) front rest p.undecided ∙
     (λ i. decision_after (sym p.bytes i) (sym count i) rest)
 
+-- where there are no entries, a walk is where it was
 passes_none : (before : Walked) → Passes before [] before
 passes_none before = record { undecided = refl; bytes = omega arith; problem = sym (append-nil before.problem) }
 
+-- two lists of entries that are passed, one behind the other
 passes_on : (before middle after : Walked) (front rest : List Entry) → Passes before front middle → Passes middle rest after →
     Passes before (front ++ rest) after
 passes_on before middle after front rest p q = record {
@@ -123,6 +127,7 @@ module _ (held : Held) (selections : Selections) (name : Text) (items : List Ite
       refuses_amid _ (over_items left selections name items held) before middle (fetched name (length opens.bytes) ∷ []) [] opens.passed
       (λ part walk. opened left (part ++ []) (subst (over_items left selections name items held) (sym (append-nil part)) walk)) file why h
 
+-- what a refusal leaves of a file it leaves of the file that it names
 leaves_none : (files later : Known) (name : Text) (why : FlatWhy) → Leaves files later name why → Leaves files later (refused_file name why) why
 leaves_none files later name FileFault h = h
 leaves_none files later name (Lex refusal) h = h
@@ -133,6 +138,7 @@ leaves_none files later name IncludeDepth h = h
 leaves_none files later name TooManyFormulas h = h
 leaves_none files later name Memory h = h
 
+-- one more than one less than a number above zero is the number
 one_more : (left : ℕ) → 0 < left → suc (left - 1) ≡ left
 one_more left some = omega arith
 
@@ -183,6 +189,7 @@ memory_refused Part files later before file why stays reason is =
     subst (λ x. RefusesOver Part files later before x why) (sym is) (subst (RefusesOver Part files later before []) (sym reason)
     (record { leaves = stays; memory = refl; ends = wherever_told files.held _ (λ held. refl) }))
 
+-- the rules for the walk over a file
 pub ruleset files_walked = (file_refused, file_refuses, memory_refused, stays_same)
 
 -- what was passed of the items of a file

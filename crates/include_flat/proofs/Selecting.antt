@@ -7,6 +7,7 @@ use Rattle.std.proofs.lemmas.List.Folds.{list_any-append}
 use Rattle.indexmap.specs.IndexSet.{insert_key}
 use Rattle.text_core.specs.Names.{Text}
 
+-- a test, or false, is the test
 or_false : (b : Bool) → (b || false) ≡ b
 or_false true = refl
 or_false false = refl
@@ -15,6 +16,7 @@ or_false false = refl
 any_last : (name last : Text) (names : List Text) → list_any (bytes_eq name) (names ++ last ∷ []) ≡ (list_any (bytes_eq name) names || bytes_eq name last)
 any_last name last names = list_any-append (bytes_eq name) names (last ∷ []) ∙ ap (λ b. list_any (bytes_eq name) names || b) (or_false (bytes_eq name last))
 
+-- names that pass the test are the same
 same_name : (a b : Text) → bytes_eq a b ≡ true → a ≡ b
 same_name a b e = (bytes_decides a b).0 e
 
@@ -36,6 +38,7 @@ any_inserted name new names = by (list_any (bytes_eq new) names) (bytes_eq name 
 abbrev pub AreKept : (Text → Bool) → List Text → List Text → Type 0
 AreKept selected kept names = (name : Text) → list_any (bytes_eq name) kept ≡ (list_any (bytes_eq name) names && selected name)
 
+-- one more name that is selected is kept too
 pub one_kept : (selected : Text → Bool) (kept names : List Text) (new : Text) → AreKept selected kept names → selected new ≡ true →
     AreKept selected (insert_key bytes_eq kept new) (names ++ new ∷ [])
 one_kept selected kept names new so_far is = λ name. any_inserted name new kept ∙
@@ -55,6 +58,7 @@ one_kept selected kept names new so_far is = λ name. any_inserted name new kept
     by name true same = rw (same, so_far name) (absorbed (list_any (bytes_eq name) names) (selected name) (ap selected (same_name name new same) ∙ is))
     by name false same = rw (same, so_far name) (apart (list_any (bytes_eq name) names) (selected name))
 
+-- one more name that is not selected is left out
 pub one_left : (selected : Text → Bool) (kept names : List Text) (new : Text) → AreKept selected kept names → selected new ≡ false →
     AreKept selected kept (names ++ new ∷ [])
 one_left selected kept names new so_far not = λ name. so_far name ∙ by name (bytes_eq name new) refl ∙

@@ -22,6 +22,7 @@ use Rattle.include_flat.specs.Walks.WalksFile.{too_deep, not_held, too_long, rea
 use Rattle.include_flat.specs.Walks.WalksBytes.{no_tokens, no_items, with_items}
 use Rattle.include_flat.specs.Walks.WalksItems.{end, formula, inclusion}
 
+-- the bytes of a file are within the bound, or too many
 short_or_long : (bytes : Text) → (length bytes ≤ MOST_FILE_BYTES) ⊎ (MOST_FILE_BYTES < length bytes)
 short_or_long bytes = by (nat_lt MOST_FILE_BYTES (length bytes)) refl
   where

@@ -35,9 +35,11 @@ record End : Type 0 where
   text : Text
   status : ℕ
 
+-- an end on the output
 abbrev on_output : Text → ℕ → End
 on_output text status = record { output = true; text = text; status = status }
 
+-- an end on the errors
 abbrev on_errors : Text → ℕ → End
 on_errors text status = record { output = false; text = text; status = status }
 
@@ -53,6 +55,7 @@ abbrev OnBytes : Text → List GroundFormula → End → Text → Type 0
 OnBytes name formulas end bytes = ((size : ℕ) × AcceptsWith formulas bytes size × (end ≡ on_output (accepted_text size) 0)) ⊎
     ((why : FirstRefusal) × IsRefusedAs formulas bytes why × (why ≢ first.Memory) × (end ≡ refused_end name why))
 
+-- two ends by the bytes of the second file are one
 one_by_bytes : (name : Text) (formulas : List GroundFormula) (bytes : Text) (a b : End) → OnBytes name formulas a bytes →
     OnBytes name formulas b bytes → a ≡ b
 one_by_bytes name formulas bytes a b (inl (m, is, e)) (inl (n, also, f)) =
@@ -70,10 +73,12 @@ module _ (held : Held) where
   OnSecond name end formulas = (IsLong held name MOST_FILE_BYTES × (end ≡ on_errors (name ++ too_long_text) 3)) ⊎
       ((bytes : Text) × (finite.get held name ≡ Some bytes) × (length bytes ≤ MOST_FILE_BYTES) × OnBytes name formulas end bytes)
 
+  -- no file is both too long and within the bound
   not_long : (name bytes : Text) → IsLong held name MOST_FILE_BYTES → finite.get held name ≡ Some bytes → length bytes ≤ MOST_FILE_BYTES → ⊥
   not_long name bytes long get within =
       let more = subst (λ o. IsSomeAnd o (λ (bs : Text). MOST_FILE_BYTES < length bs)) get long in absurd (omega arith)
 
+  -- two ends by the second file are one
   one_by_second : (name : Text) (formulas : List GroundFormula) (a b : End) → OnSecond name a formulas → OnSecond name b formulas → a ≡ b
   one_by_second name formulas a b (inl (long, e)) (inl (also, f)) = e ∙ sym f
   one_by_second name formulas a b (inl (long, e)) (inr (bytes, get, within, f)) = absurd (not_long name bytes long get within)
@@ -88,6 +93,7 @@ module _ (held : Held) where
       (((formulas : List GroundFormula) → IsGroundProblem flat formulas → ⊥) × (end ≡ on_errors (problem ++ not_built_text) 2)) ⊎
       ((formulas : List GroundFormula) × IsGroundProblem flat formulas × OnSecond name end formulas)
 
+  -- two ends by the formulas of the problem are one
   one_by_formulas : (problem : Text) (second : Option Text) (flat : List Fof) (a b : End) → OnFormulas problem second a flat →
       OnFormulas problem second b flat → a ≡ b
   one_by_formulas problem None flat a b e f = e ∙ sym f
@@ -103,6 +109,7 @@ module _ (held : Held) where
       ((file : Text) × (why : FlatWhy) × IsFlatRefused held problem file why × (end ≡ on_errors (file ++ flat_text why) 2)) ⊎
       ((flat : List Fof) × IsFlat held problem flat × OnFormulas problem second end flat)
 
+  -- two ends by the files of the problem are one
   one_by_problem : (problem : Text) (second : Option Text) (a b : End) → OnProblem a problem second → OnProblem b problem second → a ≡ b
   one_by_problem problem second a b (inl (file, why, is, e)) (inl (other, reason, also, f)) =
       let same = one_refusal held problem file other why reason is also in
@@ -117,6 +124,7 @@ module _ (held : Held) where
   OnWords words end = ((command_of words ≡ None) × (end ≡ on_errors usage_text 64)) ⊎
       ((problem : Text) × (second : Option Text) × (names_in (command_of words) words ≡ Some (problem, second)) × OnProblem end problem second)
 
+  -- two ends by the words are one
   one_by_words : (words : List Text) (a b : End) → OnWords words a → OnWords words b → a ≡ b
   one_by_words words a b (inl (none, e)) (inl (also, f)) = e ∙ sym f
   one_by_words words a b (inl (none, e)) (inr (problem, second, names, f)) = absurd (names_some words _ names none)
@@ -130,6 +138,7 @@ module _ (held : Held) where
     here : (P : Held → Type 0) → IfSome files.held P → P held
     here P is = subst (λ o. IfSome o P) told is
 
+    -- what is done is an end by the words, on the output with status 0
     by_done : (text : Text) → Done words files text → OnWords words (on_output text 0)
     by_done _ (accepted problem proof bytes formulas size are reads holds is) =
         inr (
@@ -146,6 +155,7 @@ module _ (held : Held) where
         let names = subst (λ ws. names_in (command_of ws) ws ≡ Some (problem, None)) (sym are) refl in
         inr (problem, None, names, inr (formulas, here (λ h. IsFlat h problem formulas) reads, ap (λ t. on_output t 0) is))
 
+    -- an answer is an end by the words, unless a fetch failed
     by_row : {output : Bool} {text : Text} {status : ℕ} → Answer words files later output text status → status ≢ 66 →
         OnWords words (record { output = output; text = text; status = status })
     by_row (done text row) some = by_done text row

@@ -40,6 +40,7 @@ abbrev Law : Structure → Type 0
 Law s = (problem : List GroundFormula) (steps : List CitedFact) (body : Body) → length (goals_of problem) ≡ 1 →
     IsAccepted problem steps body → Follows s (map fof_of problem)
 
+-- where the formulas of a problem follow, the problem does
 flat_follows : (s : Structure) (held : Option Held) (name : Text) (formulas : List Fof) → IfSome held (λ h. IsFlat h name formulas) →
     Follows s formulas → IfSome held (λ h. (fs : List Fof) × IsFlat h name fs × Follows s fs)
 flat_follows s None name formulas flat follows = tt
@@ -50,9 +51,11 @@ check_same : (words : List Text) (problem proof other another : Text) → words 
     other ≡ problem
 check_same words problem proof other another e f = cc
 
+-- the words of a check are not those of a conversion
 apart : (words : List Text) (problem proof other : Text) → words ≡ check_words problem proof → words ≡ convert_words other → ⊥
 apart words problem proof other e f = cc
 
+-- the words of a conversion tell the problem
 convert_same : (words : List Text) (problem other : Text) → words ≡ convert_words problem → words ≡ convert_words other → other ≡ problem
 convert_same words problem other e f = cc
 
@@ -69,6 +72,7 @@ follows_of s law {words = words} {files = files} outcome problem proof are e = b
         (subst (Follows s) (sym reads.are.are) (law formulas is.steps is.body reads.are.one_goal is.accepted)))
     by (converted other text formulas also reads is back) = absurd (apart words problem proof other are also)
 
+-- where a text is printed that reads back as the formulas of a problem, the problem is printed
 flat_printed : (held : Option Held) (name text : Text) (formulas : List Fof) (old new : Stream) → IfSome held (λ h. IsFlat h name formulas) →
     Puts old new text → ReadsBack text formulas →
     IfSome held (λ h. (fs : List Fof) × IsFlat h name fs × ((text : Text) × Puts old new text × ReadsBack text fs))
@@ -90,16 +94,20 @@ printed_of {words = words} {files = files} {old = old} {new = new} outcome probl
 check_some : (words : List Text) (problem proof : Text) → words ≡ check_words problem proof → command_of words ≡ None → ⊥
 check_some words problem proof are = subst (λ ws. command_of ws ≡ None → ⊥) (sym are) (λ none. cc)
 
+-- words that are a conversion are a command
 convert_some : (words : List Text) (problem : Text) → words ≡ convert_words problem → command_of words ≡ None → ⊥
 convert_some words problem are = subst (λ ws. command_of ws ≡ None → ⊥) (sym are) (λ none. cc)
 
+-- words that name files are a command
 pub names_some : (words : List Text) (names : Text × Option Text) → names_in (command_of words) words ≡ Some names → command_of words ≡ None → ⊥
 names_some words names are none = let never = rw none at are in cc
 
+-- words by which something is done are a command
 done_some : {words : List Text} {files : Known} {text : Text} → Done words files text → command_of words ≡ None → ⊥
 done_some {words = words} (accepted problem proof bytes formulas size are reads holds is) none = check_some words problem proof are none
 done_some {words = words} (converted problem text formulas are reads is back) none = convert_some words problem are none
 
+-- words that ask for a file are a command
 asked_some : {words : List Text} {files : Known} {file : Text} → IsAsked words files file → command_of words ≡ None → ⊥
 asked_some {words = words} (of_problem problem names asked) none = names_some words _ names.1 none
 asked_some {words = words} (as_second problem formulas names reads) none = names_some words _ names none

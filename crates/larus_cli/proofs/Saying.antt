@@ -22,6 +22,7 @@ use Rattle.larus_cli.specs.Texts.{flat_text, fault_text, too_long_text}
 pub names_check : (words : List Text) (problem proof : Text) → words ≡ check_words problem proof → NamesBoth words problem proof
 names_check words problem proof are = subst (λ ws. NamesBoth ws problem proof) (sym are) refl
 
+-- the file that the words of a conversion name
 pub names_convert : (words : List Text) (problem : Text) → words ≡ convert_words problem → NamesProblem words problem
 names_convert words problem are = subst (λ ws. NamesProblem ws problem) (sym are) (None, refl)
 

@@ -41,6 +41,7 @@ module _ {P T B : Type 0} (g : Grammar P T) (takes : P → T → B → B) (passe
       goes ts after (subst (λ row. Acted g takes passes row now ts after) (sym (ap reverse popped ∙ on_top below p))
       (replaced q rest among (subst (λ row. Acted g takes passes row now ts after) pushed acted)))
 
+-- the length of a stack onto which a row was pushed
 length_pushed : {P : Type 0} (below row : List P) → length (below ++ reverse row) ≡ length below + length row
 length_pushed below row = length-append below (reverse row) ∙ ap (λ n. length below + n) (length-reverse row)
 
@@ -88,14 +89,6 @@ module _ {P T B : Type 0} (g h : Grammar P T) (plan : Plan P T) (takes : P → T
       of_row (q ∷ rest) among e =
           subst (λ x. Continues h takes passes first before [] (reverse x) now) (sym e)
           (continues_filled h takes passes first before p q rest stack below now popped among goes)
-
-  -- the part on top of the stack takes the next token
-  pub continues_found : step ≡ Take → Continues h takes passes first before [] (reverse stack) now →
-      ComesTo h takes passes first before (Some p) (reverse new) now
-  continues_found is goes =
-      let same_stack : new ≡ below = (subst (λ s. Steps g plan p t below new s) is does).1 in
-      subst (λ row. Continues h takes passes first before [] row now)
-      ((ap reverse popped ∙ on_top below p) ∙ ap (λ x. p ∷ reverse x) (sym same_stack)) goes
 
 -- of parts that may stand for no tokens the last has an empty row, and so have the others
 pub nullable_top : {P T : Type 0} (g h : Grammar P T) (p : P) (stack below : List P) → g ≡ h → stack ≡ below ++ (p ∷ []) →

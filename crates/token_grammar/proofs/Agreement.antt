@@ -16,6 +16,7 @@ use Rattle.token_grammar.proofs.Spelling.{taken_spelled, taken_begun, begun_take
 use Rattle.token_grammar.proofs.Reading.{last_of-append}
 use Rattle.text_core.proofs.Laws.{take_next, take_all}
 
+-- no tokens have no takers
 none_taken : {P T : Type 0} {g : Grammar P T} {whole : Bool} {row takers : List P} → Taken g whole row [] takers → takers ≡ []
 none_taken (stop h) = refl
 none_taken (part alternative a rest) = none_taken rest
@@ -78,6 +79,7 @@ module _ {P T : Type 0} (g : Grammar P T) (plan : Plan P T) (law : IsPredictive 
   one_taking_of_text start whole other ts takers others first second =
       one_taking others (leaves_start g plan law start).safe first second
 
+-- there are as many takers as tokens
 pub taken_length : {P T : Type 0} {g : Grammar P T} {whole : Bool} {row : List P} {ts : List T} {takers : List P} →
     Taken g whole row ts takers → length takers ≡ length ts
 taken_length (stop h) = refl
@@ -91,6 +93,7 @@ any_end (stop h) = stop tt
 any_end (token h rest) = token h (any_end rest)
 any_end (part alternative a rest) = part alternative a (any_end rest)
 
+-- a longer front of a list begins with each shorter one
 front_of : {A : Type 0} (xs : List A) (n m : ℕ) → n ≤ m → (vs : List A) × (take m xs ≡ take n xs ++ vs)
 front_of xs zero m h = (take m xs, refl)
 front_of [] (suc n) zero h = ([], refl)

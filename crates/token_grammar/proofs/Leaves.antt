@@ -26,6 +26,7 @@ pub record LeavesAt {P T : Type 0} (g : Grammar P T) (plan : Plan P T) (start : 
       Taken g whole (start ∷ []) (us ++ (t ∷ ts)) (qs ++ later)
   pub safe : Safe g plan row
 
+-- an expanded row is one still where the chosen alternative stands for its first part
 pub expanded_once : {P T : Type 0} (g : Grammar P T) (plan : Plan P T) (t : T) (p : P) (row alternative : List P) {first : List P} →
     Expanded g plan t first (p ∷ row) → predicted g plan p t ≡ Some alternative → Expanded g plan t first (alternative ++ row)
 expanded_once g plan t p row alternative here chosen = further alternative chosen here

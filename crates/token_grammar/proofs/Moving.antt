@@ -10,15 +10,18 @@ use Rattle.token_grammar.specs.declared.part.Step.TheVariants.{Expand}
 use Rattle.token_grammar.proofs.Predicted.{numbered_among, weight_replaced}
 use Rattle.token_grammar.proofs.Leaves.{expanded_once}
 
+-- from its top, a stack is its last part and what is below it
 pub on_top : {P : Type 0} (below : List P) (p : P) → reverse (below ++ (p ∷ [])) ≡ p ∷ reverse below
 on_top below p = reverse-append below (p ∷ [])
 
+-- what was pushed is the chosen row, which stands on top of what is below
 pushed : {P : Type 0} (choice : Option (List P)) (below new : List P) → Pushes choice below new →
     (row : List P) × (choice ≡ Some row) × (reverse new ≡ row ++ reverse below)
 pushed None below new h = absurd h
 pushed (Some row) below new h =
     (row, refl, (ap reverse h ∙ reverse-append below (reverse row)) ∙ ap (λ r. r ++ reverse below) (reverse-reverse row))
 
+-- a row weighs less than another where rows that are equal to them do
 lighter_as : {P T : Type 0} (g : Grammar P T) (plan : Plan P T) (a b c d : List P) → a ≡ b → c ≡ d →
     weight g plan b < weight g plan d → weight g plan a < weight g plan c
 lighter_as g plan a b c d first second h = rw (first, second) h

@@ -8,11 +8,13 @@ use Rattle.token_grammar.specs.SpelledAs.SpelledAs.{of_token, of_row}
 use Rattle.token_grammar.specs.SpelledAs.SpelledRow.{none, member}
 use Rattle.token_grammar.proofs.Spelling.{join_spelled}
 
+-- a member of a list is the element of a choice
 pub choice_among : {A : Type 0} (list : List A) (a : A) → IsAmong a list → (choice : Choice list) × (element list choice ≡ a)
 choice_among [] a h = absurd h
 choice_among (b ∷ list) a (inl e) = (inl tt, e)
 choice_among (b ∷ list) a (inr h) = let (choice, e) = choice_among list a h in (inr choice, e)
 
+-- the element of a choice is a member of the list
 pub element_among : {A : Type 0} (list : List A) (choice : Choice list) → IsAmong (element list choice) list
 element_among [] choice = choice
 element_among (a ∷ list) (inl here) = inl refl

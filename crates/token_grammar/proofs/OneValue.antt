@@ -19,11 +19,13 @@ use Rattle.token_grammar.proofs.Spelling.{joined, join_spelled, taken_spelled}
 use Rattle.token_grammar.proofs.OfValues.{choice_among, element_among, first_spelled, value_spelled, row_spelled}
 use Rattle.text_core.proofs.Laws.{no_front}
 
+-- one less than the first number is none
 none_after_first : (number : Option ℕ) → is_first number ≡ true → one_less number ≡ None
 none_after_first None h = refl
 none_after_first (Some zero) h = refl
 none_after_first (Some (suc n)) h = absurd (false≢true h)
 
+-- where a chosen row is empty, the rows have an empty one
 choice_empty : {A : Type 0} (rows : List (List A)) (choice : Choice rows) → is_empty (element rows choice) ≡ true → has_empty rows ≡ true
 choice_empty [] choice h = absurd choice
 choice_empty (row ∷ rows) (inl here) h = or_left _ _ h
@@ -73,6 +75,7 @@ module _ {P T : Type 0} (g : Grammar P T) (plan : Plan P T) where
   empty_once most (row ∷ rows) h (inr i) (inr j) first second =
       ap inr (empty_once most rows (and_parts _ _ (and_parts _ _ h).1).1 i j first second)
 
+-- where a row without parts takes tokens up to its end, there are none
 nothing_taken : {P T : Type 0} {g : Grammar P T} {us : List T} {takers : List P} → Taken g true [] us takers → us ≡ []
 nothing_taken (stop h) = refl
 

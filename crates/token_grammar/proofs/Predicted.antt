@@ -16,32 +16,38 @@ implied false false h e = absurd (false≢true e)
 
 -- lists of rows
 
+-- where the empty row is a member, the test for an empty row is true
 pub among_empty : {A : Type 0} (rows : List (List A)) → IsAmong [] rows → has_empty rows ≡ true
 among_empty [] h = absurd h
 among_empty (row ∷ rows) (inl e) = or_left _ _ (subst (λ r. is_empty r ≡ true) (sym e) refl)
 among_empty (row ∷ rows) (inr h) = or_right _ _ (among_empty rows h)
 
+-- where the test for an empty row is true, the empty row is a member
 pub empty_among : {A : Type 0} (rows : List (List A)) → has_empty rows ≡ true → IsAmong [] rows
 empty_among [] h = absurd (false≢true h)
 empty_among ([] ∷ rows) h = inl refl
 empty_among ((a ∷ row) ∷ rows) h = inr (empty_among rows h)
 
+-- an empty list has no members
 none_among : {A : Type 0} (rows : List A) (row : A) → is_empty rows ≡ true → IsAmong row rows → ⊥
 none_among [] row h a = a
 none_among (r ∷ rows) row h a = false≢true h
 
+-- the first row has the first number
 first_numbered : {A : Type 0} (number : Option ℕ) (row : A) (rows : List A) → is_first number ≡ true →
     numbered number (row ∷ rows) ≡ Some row
 first_numbered None row rows h = absurd (false≢true h)
 first_numbered (Some zero) row rows h = refl
 first_numbered (Some (suc n)) row rows h = absurd (false≢true h)
 
+-- behind one more row a row has a number that is higher by one
 later_numbered : {A : Type 0} (number : Option ℕ) (row other : A) (rows : List A) → numbered (one_less number) rows ≡ Some row →
     numbered number (other ∷ rows) ≡ Some row
 later_numbered None row other rows h = h
 later_numbered (Some zero) row other rows h = cc
 later_numbered (Some (suc n)) row other rows h = h
 
+-- the row with a number is one of the rows
 pub numbered_among : {A : Type 0} (number : Option ℕ) (row : A) (rows : List A) → numbered number rows ≡ Some row → IsAmong row rows
 numbered_among None row rows h = cc
 numbered_among (Some n) row [] h = cc

@@ -16,12 +16,15 @@ use Rattle.token_grammar_examples.specs.Watching.{expression_watcher, look, clos
 use Rattle.token_grammar_examples.specs.Pieces.{pieces_in}
 use Rattle.token_grammar_examples.proofs.Seen.{with_more, seen_effect, counted_is, opened_is, row_opened_is}
 
+-- a count has no more pieces than may be
 abbrev IsWithin : Count → Type 0
 IsWithin count = count.pieces ≤ MOST_PIECES
 
+-- one piece more than a count below the bound is within it
 more : (before after : Count) → (before.pieces < MOST_PIECES) × (after ≡ with_more 1 before) → IsWithin after
 more before after (less, e) = subst IsWithin (sym e) (omega (arith, less))
 
+-- one level more leaves a count within the bound
 deeper : (before after : Count) → after ≡ record before { level = before.level + 1 } → IsWithin before → IsWithin after
 deeper before after e within = subst IsWithin (sym e) within
 

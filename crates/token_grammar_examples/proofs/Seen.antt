@@ -67,10 +67,12 @@ unfolding hidden-the_row-Expression-1 hidden
 each_pieces [] = refl
 each_pieces (first ∷ rest) = ap (λ n. pieces_in first + n) (each_pieces rest)
 
+-- a negation has the pieces of its operand
 negated_pieces : (operand : Expression) → pieces_in (Negated operand) ≡ pieces_in operand
 unfolding hidden-the_row-Expression-0 hidden
 negated_pieces operand = refl
 
+-- the number that a token tells is one piece
 number_pieces : (t : Mark.Mark) → pieces_in (number_of t) ≡ 1
 number_pieces (mark.Number n) = refl
 number_pieces _ = refl
@@ -80,9 +82,11 @@ sum_pieces : (first : Expression) (rest : List Expression) → pieces_in (with_r
 sum_pieces first [] = omega arith
 sum_pieces first (second ∷ more) = each_pieces (first ∷ second ∷ more)
 
+-- a row has one piece more than its members
 row_pieces : (list : List Expression) → pieces_in (RowOf list) ≡ pieces_in_list list + 1
 row_pieces list = ap (λ n. n + 1) (each_pieces list)
 
+-- a count of so many pieces at this level
 abbrev count_of : ℕ → ℕ → Count
 count_of pieces level = record { pieces = pieces; level = level }
 
@@ -90,6 +94,7 @@ count_of pieces level = record { pieces = pieces; level = level }
 same_count : (m n level : ℕ) → m ≡ n → count_of m level ≡ count_of n level
 same_count m n level e = ap (λ pieces. count_of pieces level) e
 
+-- a count to which nothing is added is the same
 nothing_more : (count : Count) → count ≡ with_more 0 count
 nothing_more count = same_count count.pieces (count.pieces + 0) count.level (omega arith)
 
@@ -97,12 +102,14 @@ nothing_more count = same_count count.pieces (count.pieces + 0) count.level (ome
 listed : (count : Count) (m n : ℕ) → with_more n (with_more 0 (with_more m count)) ≡ with_more (m + n) count
 listed count m n = same_count (((count.pieces + m) + 0) + n) (count.pieces + (m + n)) count.level (omega arith)
 
+-- an operand and what stands behind it add the pieces of the whole expression
 whole_law : (first : Expression) (rest : List Expression) (count : Count) →
     with_more (pieces_in_list rest) (with_more (pieces_in first) count) ≡ with_more (pieces_in (with_rest first rest)) count
 whole_law first rest count =
     same_count ((count.pieces + pieces_in first) + pieces_in_list rest) (count.pieces + pieces_in (with_rest first rest)) count.level
     (rw (sum_pieces first rest) (omega arith))
 
+-- an operand alone adds the pieces of its negation
 negated_law : (operand : Expression) (count : Count) →
     with_more 0 (with_more (pieces_in operand) count) ≡ with_more (pieces_in (Negated operand)) count
 negated_law operand count =
@@ -113,10 +120,12 @@ negated_law operand count =
 closes : (count : Count) → count_of count.pieces ((count.level + 1) - 1) ≡ count
 closes count = ap (count_of count.pieces) (let same : (count.level + 1) - 1 ≡ count.level = omega arith in same)
 
+-- between brackets the same is added as without them
 bracket_law : (n : ℕ) (count : Count) →
     looks (Taken taker.Close) mark.Close (with_more n (looks (Taken taker.Open) mark.Open count)) ≡ with_more n count
 bracket_law n count = closes (with_more n count)
 
+-- the members of a row between its brackets add the pieces of the row
 row_law : (list : List Expression) (count : Count) →
     looks (Taken taker.CloseRow) mark.CloseRow (with_more (pieces_in_list list) (looks (Taken taker.OpenRow) mark.OpenRow count)) ≡
     with_more (pieces_in (RowOf list)) count
@@ -124,6 +133,7 @@ row_law list count =
     same_count ((count.pieces + 1) + pieces_in_list list) (count.pieces + pieces_in (RowOf list)) ((count.level + 1) - 1)
     (rw (row_pieces list) (omega arith)) ∙ closes (with_more (pieces_in (RowOf list)) count)
 
+-- each row of parts adds the pieces of the value that is made of it
 pieces_rows : (p : Symbol.Symbol) → RowLaws Value seen_effect (λ p seen. seen) p (alternatives p) (makers p)
 pieces_rows (Taken taker) = tt
 pieces_rows (Row Whole) = ((λ values count. whole_law values.0 values.1.0 count), tt)
@@ -144,11 +154,13 @@ pieces_rows (Row Others) =
     ((λ values count. nothing_more count), ((λ values count. listed count (pieces_in values.1.0) (pieces_in_list values.1.1.1.0)), tt))
 pieces_rows (Row Add) = ((λ values count. nothing_more count), tt)
 
+-- at a token the watcher goes on as the token's value has it
 pieces_tokens : (p : Symbol.Symbol) (t : Mark.Mark) (taken : IsTrue (takes p t)) (count : Count) →
     looks p t count ≡ seen_effect p (of_token p t taken) count
 pieces_tokens (Taken taker) t taken count = refl
 pieces_tokens (Row rule) t taken count = absurd (false≢true taken)
 
+-- what the watcher sees over the tokens of a value is told by the value
 pub pieces_telling : IsBuilding expressions Value expression_making looks (λ p seen. seen) seen_effect
 pieces_telling = building_by expressions Value of_token makers looks (λ p seen. seen) seen_effect pieces_tokens pieces_rows
 
@@ -161,6 +173,7 @@ counted_is before after e = by_test (nat_lt before.pieces MOST_PIECES) refl e
     by_test true less e = (ltb-true before.pieces MOST_PIECES less, cc)
     by_test false less e = cc
 
+-- a level that is opened without a fault is one more
 pub opened_is : (before after : Count) → opened before ≡ Ok after → after ≡ record before { level = before.level + 1 }
 opened_is before after e = by_test (nat_lt before.level MOST_LEVELS) e
   where

@@ -52,6 +52,7 @@ unfolding levels unit_at formula_at
 inside_opens zero ts some = absurd (omega arith)
 inside_opens (suc depth) ts some = let less : suc depth - 1 ≡ depth = omega arith in rw less refl
 
+-- the rules for a level
 pub ruleset levels_open = (below_none, inside_none, below_opens, inside_opens)
 
 -- further values of a list: those that were read are in front of those that are left
@@ -117,6 +118,7 @@ unfolding more_from
 is_full read k zero ts front total e so_far = sym so_far ∙ ap (λ xs. Some (xs, ts)) (append-nil front)
 is_full read k (suc most) ts front total e so_far = absurd (omega arith)
 
+-- the rules for a further value of a list
 pub ruleset further = (goes_on, stops, gives_up, ends, is_full)
 
 -- a chain is its first member in front of the further ones
@@ -163,6 +165,7 @@ pub fewer : (t : Token) (tail ts : List Token) → Some (t, tail) ≡ first_of t
 fewer t tail [] first = absurd (cc)
 fewer t tail (u ∷ us) first = let same = ap length (same_parts t u tail us first).1 in omega arith
 
+-- the rules for the first dot
 pub ruleset dots = (dot_first, dot_later, no_dot, fewer)
 
 -- items

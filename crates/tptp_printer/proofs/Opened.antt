@@ -37,6 +37,7 @@ Or_text gs = ap formula_text (Or_opens gs) ∙ chain_row (codes " | ") gs
 pub inequality_text : (t u : Term) → formula_text (Not (Equal t u)) ≡ term_text t ++ codes " != " ++ term_text u
 inequality_text t u = ap formula_text (Not_opens (Equal t u))
 
+-- the rules for the texts of formulas that hold others
 pub ruleset opened = (And_text, Or_text, inequality_text)
 
 -- the text of a negation of what is no equation

@@ -17,7 +17,7 @@ use Rattle.tptp_printer.proofs.Pieces.{Any, BlankNext, Gives, IsOne, one_blank, 
 sign : (k : Kind) (text : Text) → kind_of text ≡ Some k → ((c : ℕ) (cs : Text) → kind_of (text ++ c ∷ cs) ≡ None) → Gives Any text (IsOne k)
 sign k text is longer = seen (λ ts s. (s.0, s.1, s.3)) (one_token k text (λ rest may. record { token = is; longest = λ c more after e. longer c more }))
 
--- the signs, with the blanks that are printed with some of them
+-- the signs that are printed without blanks
 pub open_parenthesis : Gives Any (codes "(") (IsOne kind.OpenParenthesis)
 unfolding kind_of
 open_parenthesis = sign kind.OpenParenthesis (codes "(") refl (λ c cs. refl)
@@ -63,6 +63,7 @@ blank_after follows p = gap_after 32 refl follows p
 blank_before : {may : Text → Type 0} {text : Text} {S : List Token → Type 0} → Gives may text S → Gives may (codes " " ++ text) S
 blank_before {S = S} p = seen (λ ts s. subst S (sym (s.4 ∙ ap (λ (us : List Token). us ++ s.1) s.2)) s.3) (followed (one_blank 32 refl) p (λ rest may. tt))
 
+-- the signs that are printed with a blank behind, or on both sides
 pub tilde : Gives Any (codes "~ ") (IsOne kind.Tilde)
 unfolding kind_of
 tilde = blank_after (λ rest. refl) (led_sign kind.Tilde (codes "~") refl (λ cs. refl))
