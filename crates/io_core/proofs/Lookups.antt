@@ -9,6 +9,7 @@ use Rattle.std.specs.Cmp.Lexicographic.{slice_cmp, pointwise, lists_ties, bytes_
 use Rattle.std.specs.FinMap as finite
 use Rattle.io_core.specs.Entries.{texts_of, held_by}
 
+-- the entries of a table, each a key with its value
 abbrev Entries : Type 0
 Entries = List (Vec ℕ × Vec ℕ)
 
@@ -22,6 +23,7 @@ items_of_cond : (b : Bool) (v : Vec ℕ) (o : Option (Vec ℕ))
 items_of_cond true v o = refl
 items_of_cond false v o = refl
 
+-- the bytes that a look-up of a name finds are those that a search for the name finds
 found : (es : Entries) (name : List ℕ) → option_map (λ v. v.items) (lookup (has_name name) es) ≡ finite.find (slice_cmp nat_cmp) name (texts_of es)
 found [] name = refl
 found (e ∷ es) name =
@@ -36,9 +38,11 @@ get-held_by es name = finite.get-from_entries nat_list_cmp_total (texts_of es) n
 pub get-held_by-none : (es : Entries) (name : List ℕ) → lookup (λ k. pointwise nat_eq name k.items) es ≡ None → finite.get (held_by es) name ≡ None
 get-held_by-none es name e = get-held_by es name ∙ ap (option_map (λ v. v.items)) e
 
+-- what the map has under a name, where a look-up found bytes
 pub get-held_by-some : (es : Entries) (name : List ℕ) (v : Vec ℕ) → lookup (λ k. pointwise nat_eq name k.items) es ≡ Some v → finite.get (held_by es) name ≡ Some v.items
 get-held_by-some es name v e = get-held_by es name ∙ ap (option_map (λ v. v.items)) e
 
+-- a look-up by a test that is apart from the changed one finds what it found before
 other_names : (test : Vec ℕ → Bool) (old new : Entries) → KeepsOthers (λ x y. pointwise nat_eq x.items y.items) test old new
     → (other : Vec ℕ → Bool) → IsKeyTest (λ x y. pointwise nat_eq x.items y.items) other → AreApart test other → lookup other new ≡ lookup other old
 unfolding KeepsOthers

@@ -34,6 +34,7 @@ slots_stay : (elements : List ℕ) (numbers : Text → ℕ) (xs : List Text) →
 slots_stay elements numbers [] = refl
 slots_stay elements numbers (x ∷ xs) = ap (λ zs. Constant (numbers x) ∷ zs) (slots_stay elements numbers xs)
 
+-- the atom by numbers of a ground atom is its own instance
 ground_stays : (elements : List ℕ) (tables : Tables) (a : GroundAtom) → atom_at elements (atom_of tables a) ≡ atom_of tables a
 ground_stays elements tables a = let args = slots_stay elements (λ c. number_of bytes_eq c tables.constants) a.args in
     λ i. record { positive = true; symbol = (atom_of tables a).symbol; args = args i }
@@ -51,15 +52,18 @@ args_told (x ∷ xs) [] e = absurd (cc)
 args_told (x ∷ xs) (y ∷ ys) e = let k = and_both (bytes_eq x y) (pointwise bytes_eq xs ys) e in
     let head = texts_told.told x y k.0 in let tail = args_told xs ys k.1 in λ i. head i ∷ tail i
 
+-- the test of a list of texts against itself passes
 args_itself : (xs : List Text) → pointwise bytes_eq xs xs ≡ true
 args_itself [] = refl
 args_itself (x ∷ xs) = rw (texts_told.itself x, args_itself xs)
 
+-- two atoms for which the test passes are one
 atoms_told : (a b : GroundAtom) → atom_eq a b ≡ true → a ≡ b
 atoms_told a b e = let k = and_both (bytes_eq a.predicate b.predicate) (pointwise bytes_eq a.args b.args) e in
     let predicate = texts_told.told a.predicate b.predicate k.0 in let args = args_told a.args b.args k.1 in
     λ i. record { predicate = predicate i; args = args i }
 
+-- the test of two atoms that are one passes
 atoms_itself : (a b : GroundAtom) → a ≡ b → atom_eq a b ≡ true
 atoms_itself a b e = subst (λ (x : GroundAtom). atom_eq a x ≡ true) e (rw (texts_told.itself a.predicate, args_itself a.args))
 
@@ -73,6 +77,7 @@ pub record Cited (problem : List GroundFormula) (cite : Text) (a : GroundAtom) :
   pub atom : formula.atom ≡ a
   pub among : IsAmong formula problem
 
+-- what a citation finds is the first axiom with the name, where it is so behind a first formula
 cited_by : (g : GroundFormula) (gs : List GroundFormula) (cite : Text) (a : GroundAtom) (premise named : Bool) → is_premise g.role ≡ premise → bytes_eq g.name cite ≡ named
     → (cited_atom cite gs ≡ Some a → Cited gs cite a) → (if premise && named then Some g.atom else cited_atom cite gs) ≡ Some a → Cited (g ∷ gs) cite a
 cited_by g gs cite a true true p n go e = record {
@@ -106,10 +111,12 @@ cited_by g gs cite a false named p n go e = let k = go e in record {
   among = inr k.among;
 }
 
+-- what a citation finds is the first axiom with the name
 cited : (problem : List GroundFormula) (cite : Text) (a : GroundAtom) → cited_atom cite problem ≡ Some a → Cited problem cite a
 cited [] cite a e = absurd (cc)
 cited (g ∷ gs) cite a e = cited_by g gs cite a (is_premise g.role) (bytes_eq g.name cite) refl refl (cited gs cite a) e
 
+-- the first axiom with a name is found by a citation, where it is so behind a first formula
 found_by : (g : GroundFormula) (gs : List GroundFormula) (cite : Text) (at : ℕ) (formula : GroundFormula) (premise : Bool) → is_premise g.role ≡ premise
     → slice_get (if premise then g ∷ axioms_of gs else axioms_of gs) at ≡ Some formula → formula.name ≡ cite
     → AllByRecursion (λ (h : GroundFormula). h.name ≢ cite) (take at (if premise then g ∷ axioms_of gs else axioms_of gs))
@@ -126,11 +133,13 @@ found_by g gs cite (suc n) formula true p get name first go = rw (p, other (byte
     other false e = e
 found_by g gs cite at formula false p get name first go = rw p (go at get first)
 
+-- the first axiom with a name is found by a citation
 found : (problem : List GroundFormula) (cite : Text) (at : ℕ) (formula : GroundFormula) → slice_get (axioms_of problem) at ≡ Some formula → formula.name ≡ cite
     → AllByRecursion (λ (h : GroundFormula). h.name ≢ cite) (take at (axioms_of problem)) → cited_atom cite problem ≡ Some formula.atom
 found [] cite at formula get name first = absurd (cc)
 found (g ∷ gs) cite at formula get name first = found_by g gs cite at formula (is_premise g.role) refl get name first (λ n h f. found gs cite n formula h name f)
 
+-- an axiom is among the formulas, where it is so behind a first formula
 axiom_by : (g : GroundFormula) (gs : List GroundFormula) (at : ℕ) (formula : GroundFormula) (premise : Bool)
     → slice_get (if premise then g ∷ axioms_of gs else axioms_of gs) at ≡ Some formula
     → ((n : ℕ) → slice_get (axioms_of gs) n ≡ Some formula → IsAmong formula gs) → IsAmong formula (g ∷ gs)
@@ -138,6 +147,7 @@ axiom_by g gs zero formula true get go = inl (value_same get)
 axiom_by g gs (suc n) formula true get go = inr (go n get)
 axiom_by g gs at formula false get go = inr (go at get)
 
+-- an axiom is among the formulas of the problem
 axiom_among : (problem : List GroundFormula) (at : ℕ) (formula : GroundFormula) → slice_get (axioms_of problem) at ≡ Some formula → IsAmong formula problem
 axiom_among [] at formula get = absurd (cc)
 axiom_among (g ∷ gs) at formula get = axiom_by g gs at formula (is_premise g.role) get (λ n h. axiom_among gs n formula h)
@@ -152,11 +162,13 @@ goal_by g gs goal more false e go = (g, inl refl, first_same e)
     first_same : g.atom ∷ goals_of gs ≡ goal ∷ more → g.atom ≡ goal
     first_same e = cc
 
+-- the first goal is the atom of a formula of the problem
 pub goal_among : (problem : List GroundFormula) (goal : GroundAtom) (more : List GroundAtom) → goals_of problem ≡ goal ∷ more
     → (f : GroundFormula) × IsAmong f problem × (f.atom ≡ goal)
 goal_among [] goal more e = absurd (cc)
 goal_among (g ∷ gs) goal more e = goal_by g gs goal more (is_premise g.role) e (goal_among gs goal more)
 
+-- an atom that shows another is there, and is that one
 shown : (o : Option GroundAtom) (a : GroundAtom) → shows o a ≡ true → (b : GroundAtom) × (o ≡ Some b) × (b ≡ a)
 shown None a e = absurd (cc)
 shown (Some b) a e = (b, refl, atoms_told b a e)
@@ -280,6 +292,7 @@ module _ (problem : List GroundFormula) (goal : GroundAtom) (one_goal : goals_of
         | inr none ↦ absurd none
       ]
 
+-- the first goal, where there is one goal, is the only one
 only_goal : (goals : List GroundAtom) (goal : GroundAtom) → length goals ≡ 1 → Some goal ≡ first goals → goals ≡ goal ∷ []
 only_goal [] goal one e = absurd (omega arith)
 only_goal (a ∷ []) goal one e = sames e
@@ -295,6 +308,7 @@ accepts_with problem goal bytes steps n one e spelled holds count =
     let k = accepted problem goal (only_goal (goals_of problem) goal one e) steps holds in
     record { steps = steps; spelled = spelled; body = k.0; accepted = k.1; size_is = count ∙ sym k.2 }
 
+-- the check refuses a proof that it does not accept
 pub refuses : (problem : List GroundFormula) (goal : GroundAtom) (bytes : Text) (steps : List CitedFact) → length (goals_of problem) ≡ 1 → Some goal ≡ first (goals_of problem)
     → IsGroundProof bytes steps → accepts problem goal false steps ≡ false → Refuses problem bytes
 refuses problem goal bytes steps one e spelled refused = record {

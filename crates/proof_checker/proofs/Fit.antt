@@ -14,21 +14,26 @@ use Rattle.proof_checker.specs.Ground.{formula_of, fof_of, goals_of, is_premise,
 use Rattle.proof_checker.specs.Making.{is_fit}
 use Rattle.text_core.proofs.Laws.{and_both, number_same}
 
+-- a number is at most another where the test tells so
 le_told : (m n : ℕ) → nat_le m n ≡ true → m ≤ n
 le_told m n e = grind arith
 
+-- the test tells so where a number is at most another
 le_from : (m n : ℕ) → m ≤ n → nat_le m n ≡ true
 le_from m n e = grind arith
 
+-- formulas for which the test passes have no more arguments each than allowed
 narrow_told : (gs : List GroundFormula) → list_all (λ (g : GroundFormula). nat_le (length g.atom.args) 32) gs ≡ true → AllByRecursion (λ (g : GroundFormula). length g.atom.args ≤ 32) gs
 narrow_told [] e = tt
 narrow_told (g ∷ gs) e = let k = and_both (nat_le (length g.atom.args) 32) (list_all (λ (h : GroundFormula). nat_le (length h.atom.args) 32) gs) e in
     (le_told (length g.atom.args) 32 k.0, narrow_told gs k.1)
 
+-- the test passes for formulas that have no more arguments each than allowed
 narrow_from : (gs : List GroundFormula) → AllByRecursion (λ (g : GroundFormula). length g.atom.args ≤ 32) gs → list_all (λ (g : GroundFormula). nat_le (length g.atom.args) 32) gs ≡ true
 narrow_from [] all = refl
 narrow_from (g ∷ gs) all = rw (le_from (length g.atom.args) 32 all.0, narrow_from gs all.1)
 
+-- a further formula adds one goal where it is no premise, and none where it is one
 goals_step : (g : GroundFormula) (gs : List GroundFormula) → length (goals_of (g ∷ gs)) ≡ cond (not (is_premise g.role)) (1 + length (goals_of gs)) (length (goals_of gs))
 goals_step g gs = by (is_premise g.role)
   where
@@ -36,9 +41,11 @@ goals_step g gs = by (is_premise g.role)
     by true = refl
     by false = omega arith
 
+-- there are as many goals as formulas that are no premises
 pub goals_counted : (gs : List GroundFormula) → length (goals_of gs) ≡ count_by (λ (g : GroundFormula). not (is_premise g.role)) gs
 goals_counted gs = is_count_by (λ hs. length (goals_of hs)) (λ (g : GroundFormula). not (is_premise g.role)) refl goals_step gs
 
+-- two lists are the same where their images by a function that keeps values apart are
 map_same : {X Y : Type 0} (make : X → Y) → ((x y : X) → make x ≡ make y → x ≡ y) → (xs ys : List X) → map make xs ≡ map make ys → xs ≡ ys
 map_same make same [] [] e = refl
 map_same make same [] (y ∷ ys) e = absurd (cc)
@@ -48,21 +55,26 @@ map_same make same (x ∷ xs) (y ∷ ys) e =
     let first = same x y heads in let rest = map_same make same xs ys tails in
     λ i. first i ∷ rest i
 
+-- two constants that are the same have the same name
 constant_same : (x y : Text) → Constant x ≡ Constant y → x ≡ y
 constant_same x y e = cc
 
+-- two atoms that are the same have the same predicate
 predicates_same : (p q : Text) (ts us : List Term) → Pred p ts ≡ Pred q us → p ≡ q
 predicates_same p q ts us e = cc
 
+-- two atoms that are the same have the same terms
 terms_same : (p q : Text) (ts us : List Term) → Pred p ts ≡ Pred q us → ts ≡ us
 terms_same p q ts us e = cc
 
+-- two ground atoms that are the same as formulas are the same
 atom_same : (a b : GroundAtom) → formula_of a ≡ formula_of b → a ≡ b
 atom_same a b e =
     let predicate = predicates_same a.predicate b.predicate (map Constant a.args) (map Constant b.args) e in
     let args = map_same Constant constant_same a.args b.args (terms_same a.predicate b.predicate (map Constant a.args) (map Constant b.args) e) in
     λ i. record { predicate = predicate i; args = args i }
 
+-- two ground formulas that are the same as formulas of a problem are the same
 formula_same : (g h : GroundFormula) → fof_of g ≡ fof_of h → g ≡ h
 formula_same g h e =
     let name = ap (λ (f : Fof). f.name) e in

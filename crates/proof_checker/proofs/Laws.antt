@@ -30,6 +30,7 @@ stand_length axioms (s ∷ ss) mps (mp, more, are, stands, rest) =
     let others : length more ≡ length ss = stand_length axioms ss more rest in
     omega arith
 
+-- a tree of an accepted proof has one application more than there are steps
 accepted_size : (problem : List GroundFormula) (steps : List CitedFact) (body : Body) → IsAccepted problem steps body → size body ≡ length steps + 1
 accepted_size problem steps body is =
     let m = stand_length _ steps body.steps is.stands.applied in

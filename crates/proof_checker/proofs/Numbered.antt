@@ -19,12 +19,15 @@ pub record TellsSame {X : Type 0} (same : X → X → Bool) : Type 0 where
   pub told : (x y : X) → same x y ≡ true → x ≡ y
   pub itself : (x : X) → same x x ≡ true
 
+-- the test of two texts tells whether they are one
 pub texts_told : TellsSame bytes_eq
 texts_told = record { told = λ x y. (bytes_eq-Decides x y).0; itself = λ x. (bytes_eq-Decides x x).1 refl }
 
+-- the test of a number against itself passes
 number_itself : (n : ℕ) → (n == n) ≡ true
 number_itself n = grind arith
 
+-- the test of two symbols tells whether they are one
 pub symbols_told : TellsSame symbol_eq
 symbols_told = record {
   told = λ x y e. let k = and_both (bytes_eq x.name y.name) (x.arity == y.arity) e in
@@ -69,20 +72,24 @@ pub record IsIn (problem : List GroundFormula) (a : GroundAtom) : Type 0 where
   pub symbol : slice_get (tables_of problem).symbols (number_of symbol_eq (symbol_of a) (tables_of problem).symbols) ≡ Some (symbol_of a)
   pub constants : AllByRecursion (λ c. slice_get (tables_of problem).constants (number_of bytes_eq c (tables_of problem).constants) ≡ Some c) a.args
 
+-- the image of a member is among the images
 among_map : {X Y : Type 0} (f : X → Y) (x : X) (xs : List X) → IsAmong x xs → IsAmong (f x) (map f xs)
 among_map f x [] here = absurd here
 among_map f x (y ∷ ys) (inl here) = inl (ap f here)
 among_map f x (y ∷ ys) (inr later) = inr (among_map f x ys later)
 
+-- an argument of a formula of the problem is among the arguments of the problem
 args_among : (c : Text) (g : GroundFormula) (problem : List GroundFormula) → IsAmong g problem → IsAmong c g.atom.args → IsAmong c (all_args problem)
 args_among c g [] here arg = absurd here
 args_among c g (h ∷ hs) (inl here) arg = among_front c h.atom.args (all_args hs) (subst (λ (f : GroundFormula). IsAmong c f.atom.args) (sym here) arg)
 args_among c g (h ∷ hs) (inr later) arg = among_back c h.atom.args (all_args hs) (args_among c g hs later arg)
 
+-- what holds of whatever is among the texts holds of each of them
 every_arg : (xs : List Text) (P : Text → Type 0) → ((c : Text) → IsAmong c xs → P c) → AllByRecursion P xs
 every_arg [] P go = tt
 every_arg (x ∷ xs) P go = (go x (inl refl), every_arg xs P (λ c here. go c (inr here)))
 
+-- the names of an atom of the problem are in its tables at their numbers
 pub is_in : (problem : List GroundFormula) (g : GroundFormula) → IsAmong g problem → IsIn problem g.atom
 is_in problem g here = record {
   symbol = numbered symbol_eq symbols_told (symbol_of g.atom) (map (λ (f : GroundFormula). symbol_of f.atom) problem) (among_map (λ (f : GroundFormula). symbol_of f.atom) g problem here);
@@ -90,6 +97,7 @@ is_in problem g here = record {
       (λ c arg. numbered bytes_eq texts_told c (all_args problem) (args_among c g problem here arg));
 }
 
+-- two constants that are the same have the same number
 slot_same : (m n : ℕ) → Constant m ≡ Constant n → m ≡ n
 slot_same m n e = cc
 

@@ -11,14 +11,17 @@ use Rattle.proof_checker.specs.Ground.{IsWord, IsCited, atom_texts, step_texts, 
 use Rattle.proof_checker.specs.Reading.{with_front, after, word_from, atom_from, empty_list, end_from, closing, closed, step_end, step_behind, step_from, step_or_end, steps_from, proof_from}
 use Rattle.proof_checker.proofs.Sound.{bound, after_is, word_is, AtomRead, atom_sound, front_is}
 
+-- texts with something left after an empty list are its brackets and what is left
 list_is : (ts rest : List Text) → empty_list ts ≡ Some rest → ts ≡ codes "[" ∷ codes "]" ∷ rest
 list_is ts rest e = let k = bound (after (codes "]")) (after (codes "[") ts) rest e in
     after_is (codes "[") ts k.0 k.1 ∙ ap (λ zs. codes "[" ∷ zs) (after_is (codes "]") k.0 rest k.2)
 
+-- the texts, with `mp` before them, spell a step whose names are words, and what is left
 record StepRead (ts : List Text) (read : CitedFact × List Text) : Type 0 where
   spelled : codes "mp" ∷ ts ≡ step_texts read.0 ++ read.1
   cited : IsCited read.0
 
+-- a step that is read to its end behind its atom is spelled by the texts
 step_ends : (cite : Text) (ts : List Text) (a : GroundAtom × List Text) (read : CitedFact × List Text)
     → IsWord cite → AtomRead ts a → step_end cite a ≡ Some read
     → StepRead (cite ∷ codes "[" ∷ codes "]" ∷ codes "new" ∷ codes "[" ∷ codes "]" ∷ codes "gives" ∷ ts) read
@@ -31,6 +34,7 @@ step_ends cite ts a read w at e =
       cited = record { cite = w; atom = at.words };
     })
 
+-- a step that is read is spelled by the texts
 step_sound : (ts : List Text) (read : CitedFact × List Text) → step_from ts ≡ Some read → StepRead ts read
 unfolding step_from
 step_sound ts read e =
@@ -55,10 +59,12 @@ pub record StepsRead (most : ℕ) (ts : List Text) (ss : List CitedFact) : Type 
   pub cited : AllByRecursion IsCited ss
   pub few : length ss ≤ most
 
+-- where the steps close, no text is left and there is no further step
 closing_is : (ts : List Text) (ss : List CitedFact) → closing ts ≡ Some (ss, []) → (ts ≡ []) × (ss ≡ [])
 closing_is [] ss e = (refl, sym (ap (λ (q : List CitedFact × List Text). q.0) (value_same e)))
 closing_is (t ∷ ts) ss e = absurd (cc)
 
+-- the end of a proof that is read is spelled by the texts
 closed_is : (most : ℕ) (ts : List Text) (ss : List CitedFact) → closed ts ≡ Some (ss, []) → StepsRead most ts ss
 closed_is most ts ss e =
     let k = bound closing (end_from ts) (ss, []) e in
@@ -74,14 +80,17 @@ closed_is most ts ss e =
     ∙ ap (λ zs. codes "as" ∷ codes "1" ∷ codes "[" ∷ codes "]" ∷ codes "." ∷ zs) last.0 in
     subst (StepsRead most ts) (sym last.1) (record { spelled = spelt; cited = tt; few = omega arith })
 
+-- a chain that ends in nothing never gives something
 never_some : {X Y : Type 0} (o : Option X) (y : Y) → option_and_then (λ _. None) o ≡ Some y → ⊥
 never_some None y e = cc
 never_some (Some x) y e = cc
 
+-- steps that are read where none is allowed are spelled by the texts
 no_step : (most : ℕ) (ts : List Text) (word : Option (List Text)) (ss : List CitedFact) → step_or_end word (closed ts) (λ _. None) ≡ Some (ss, []) → StepsRead most ts ss
 no_step most ts None ss e = closed_is most ts ss e
 no_step most ts (Some us) ss e = absurd (never_some (step_from us) (ss, []) e)
 
+-- steps that are read where one more is allowed are spelled, where those behind the first are
 more_steps : (most : ℕ) (ts : List Text) (word : Option (List Text)) (ss : List CitedFact) → after (codes "mp") ts ≡ word
     → ((us : List Text) (rest : List CitedFact) → steps_from most us ≡ Some (rest, []) → StepsRead most us rest)
     → step_or_end word (closed ts) (λ (read : CitedFact × List Text). with_front (read.0 ∷ []) (steps_from most read.1)) ≡ Some (ss, []) → StepsRead (suc most) ts ss
@@ -98,16 +107,19 @@ more_steps most ts (Some us) ss w go e =
       few = omega arith;
     })
 
+-- steps that are read up to the end are spelled by the texts
 steps_sound : (most : ℕ) (ts : List Text) (ss : List CitedFact) → steps_from most ts ≡ Some (ss, []) → StepsRead most ts ss
 unfolding steps_from
 steps_sound zero ts ss e = no_step 0 ts (after (codes "mp") ts) ss e
 steps_sound (suc most) ts ss e = more_steps most ts (after (codes "mp") ts) ss refl (steps_sound most) e
 
+-- the texts spell a proof of at most so many steps
 pub record ProofRead (most : ℕ) (ts : List Text) (ss : List CitedFact) : Type 0 where
   pub spelled : ts ≡ proof_texts ss
   pub cited : AllByRecursion IsCited ss
   pub few : length ss ≤ most
 
+-- a proof that is read is spelled by the texts
 pub proof_sound : (most : ℕ) (ts : List Text) (ss : List CitedFact) → proof_from most ts ≡ Some (ss, []) → ProofRead most ts ss
 unfolding proof_from
 proof_sound most ts ss e =

@@ -27,6 +27,7 @@ use Rattle.proof_checker.specs.Accepted.{IsAccepted}
 use Rattle.proof_checker.proofs.Numbered.{IsIn, is_in}
 use Rattle.proof_checker.proofs.Acceptance.{goal_is, goal_among}
 
+-- where the role is a premise's, what holds of premises holds
 if_premise : (role : Role) (P : Type 0) → is_premise role ≡ true → IfPremise role P → P
 if_premise Conjecture P p h = absurd (cc)
 if_premise Axiom P p h = h
@@ -38,6 +39,7 @@ if_premise Theorem P p h = h
 if_premise Corollary P p h = h
 if_premise NegatedConjecture P p h = h
 
+-- where the role is no premise's, it is the conjecture's, and what holds is told of it
 if_conjecture : (role : Role) (P : Type 0) → is_premise role ≡ false → P → IfConjecture role P
 if_conjecture Conjecture P p h = h
 if_conjecture Axiom P p h = absurd (cc)

@@ -12,6 +12,7 @@ use Rattle.signature.proofs.Positions.{position-seen, position_or_len-seen, list
 use Rattle.signature.specs.Numbers.{AreDistinctSymbols, is_symbol, symbol_number, found_symbol, with_symbol}
 use Rattle.signature.specs.Columns.{name_number, found_name, with_name, symbol_in, symbols_in, is_same_pair, AreTables}
 
+-- the text with this number, or the empty one past the end
 abbrev text_at : List Text → ℕ → Text
 text_at names j = text_or_empty (slice_get names j)
 
@@ -100,10 +101,12 @@ found_is : (b : Bool) (p n : ℕ) → Some n ≡ cond b (Some p) None → n ≡ 
 found_is true p n e = cc
 found_is false p n e = cc
 
+-- a look-up that finds nothing tells that the test fails
 not_found : (b : Bool) (p : ℕ) → None ≡ cond b (Some p) None → b ≡ false
 not_found true p e = cc
 not_found false p e = refl
 
+-- a number that a look-up of a name finds is the number of the name
 pub number_is : (names : List Text) (name : Text) (n : ℕ) → Some n ≡ found_name names name → n ≡ name_number names name
 number_is names name n e = found_is (nat_lt (name_number names name) (length names)) (name_number names name) n e
 

@@ -18,10 +18,12 @@ abbrev pub slot_in : List ℕ → Slot → ℕ
 slot_in e (Variable v) = 0
 slot_in e (Constant a) = slice_index e a
 
+-- a slot below one bound is below any bound that is no smaller
 slot_below : (n m : ℕ) (s : Slot) → n < suc m → SlotIsBelow 0 n s → SlotIsBelow 0 m s
 slot_below n m (Variable v) le h = h
 slot_below n m (Constant c) le h = omega arith
 
+-- a slot keeps its element where more elements are put behind
 slot_grows : (e ys : List ℕ) (s : Slot) → SlotIsBelow 0 (length e) s → slot_in (e ++ ys) s ≡ slot_in e s
 slot_grows e ys (Variable v) h = absurd (omega arith)
 slot_grows e ys (Constant c) h = get_or_append_left e ys 0 c h

@@ -22,23 +22,29 @@ use Rattle.vernacular_tree.proofs.Numbers.{below_greater, counted_length, counte
 abbrev pub Keeps : List ℕ → List ℕ → Type 0
 Keeps e e2 = (a : ℕ) → a < length e → (a < length e2) × (slice_index e2 a ≡ slice_index e a)
 
+-- each list keeps what its own elements stand for
 pub keeps_self : (e : List ℕ) → Keeps e e
 keeps_self e a below = (below, refl)
 
+-- a list with more behind it keeps what the elements stand for
 pub keeps_more : (e ys : List ℕ) → Keeps e (e ++ ys)
 keeps_more e ys a below = let long = length-append e ys in (omega (arith, long), get_or_append_left e ys 0 a below)
 
+-- a slot below the length of a list is below the length of one that keeps it
 slot_kept : (e e2 : List ℕ) → Keeps e e2 → (s : Slot) → SlotIsBelow 0 (length e) s → SlotIsBelow 0 (length e2) s
 slot_kept e e2 keeps (Variable v) h = h
 slot_kept e e2 keeps (Constant a) h = (keeps a h).0
 
+-- a slot has the same image by a list that keeps the other
 slot_same : (e e2 : List ℕ) → Keeps e e2 → (s : Slot) → SlotIsBelow 0 (length e) s → slot_image e2 s ≡ slot_image e s
 slot_same e e2 keeps (Variable v) h = refl
 slot_same e e2 keeps (Constant a) h = ap Constant (keeps a h).1
 
+-- a fact with elements below the length of a list has them below that of one that keeps it
 pub elements_kept : (e e2 : List ℕ) → Keeps e e2 → (fact : Atom) → HasElements (length e) fact → HasElements (length e2) fact
 elements_kept e e2 keeps fact h = each_map (slot_kept e e2 keeps) fact.args h
 
+-- a fact has the same image by a list that keeps the other
 pub image_same : (e e2 : List ℕ) → Keeps e e2 → (fact : Atom) → HasElements (length e) fact → image e2 fact ≡ image e fact
 image_same e e2 keeps fact h =
     ap (λ (args : List Slot). record { positive = fact.positive; symbol = fact.symbol; args = args })
@@ -48,18 +54,21 @@ image_same e e2 keeps fact h =
 pub stands_more : (to more : Context) (lines : List Line) → more.lines ≡ to.lines ++ lines → (fact : Atom) → Stands to fact → Stands more fact
 stands_more to more lines is fact h = rw is (some_front (LineHas fact) to.lines lines h)
 
+-- images that stand still stand by a list that keeps the other, in a context with more lines
 images_kept : (e e2 : List ℕ) → Keeps e e2 → (to more : Context) (lines : List Line) → more.lines ≡ to.lines ++ lines
     → (facts : List Atom) → AllByRecursion (HasElements (length e)) facts → ImagesStand e to facts → ImagesStand e2 more facts
 images_kept e e2 keeps to more lines is facts within stand =
     each_both {R = λ fact. Stands more (image e2 fact)}
     (λ fact has stands. subst (Stands more) (sym (image_same e e2 keeps fact has)) (stands_more to more lines is (image e fact) stands)) facts within stand
 
+-- lists of facts have the same images by a list that keeps the other
 lists_same : (e e2 : List ℕ) → Keeps e e2 → (lists : List (List Atom)) → AllByRecursion (AllByRecursion (HasElements (length e))) lists
     → map (map (image e2)) lists ≡ map (map (image e)) lists
 lists_same e e2 keeps lists within =
     each_same (map (image e2)) (map (image e)) lists
     (each_map (λ facts has. each_same (image e2) (image e) facts (each_map (image_same e e2 keeps) facts has)) lists within)
 
+-- a line that carries over to a context carries over to one with more lines
 pub line_kept : (e e2 : List ℕ) → Keeps e e2 → (to more : Context) (lines : List Line) → more.lines ≡ to.lines ++ lines
     → (line : Line) → LineCarries e to line → LineCarries e2 more line
 line_kept e e2 keeps to more lines is (Facts facts) h = (each_map (elements_kept e e2 keeps) facts h.0, images_kept e e2 keeps to more lines is facts h.0 h.1)
@@ -86,6 +95,7 @@ witnessed_line e to (facts ∷ []) within (inl h) = (within.0, h)
 witnessed_line e to (facts ∷ []) within (inr h) = absurd h
 witnessed_line e to (facts ∷ more ∷ rest) within h = (within, inr h)
 
+-- a fact of a line that carries over stands at its image in the other context
 in_line : (e : List ℕ) (to : Context) (fact : Atom) (line : Line) → LineCarries e to line → LineHas fact line → Stands to (image e fact)
 in_line e to fact (Facts facts) h has = some_with (λ other stands same. subst (λ (f : Atom). Stands to (image e f)) same stands) facts h.1 has
 in_line e to fact (Cases lists) h has = absurd has

@@ -19,23 +19,28 @@ use Rattle.text_core.proofs.Laws.{each_map, each_append, each_get, each_mapped, 
 use Rattle.vernacular_tree.proofs.Numbers.{below_greater, counted_length, counted_below, counted_at}
 use Rattle.vernacular_tree.proofs.Images.{atom_at_within, witness_carries}
 
+-- a slot below one bound is below any bound that is no smaller
 slot_more : (n m : ℕ) → n ≤ m → (s : Slot) → SlotIsBelow 0 n s → SlotIsBelow 0 m s
 slot_more n m le (Variable v) h = h
 slot_more n m le (Constant c) h = omega arith
 
+-- a fact with elements below one bound has them below any bound that is no smaller
 fact_more : (n m : ℕ) → n ≤ m → (fact : Atom) → HasElements n fact → HasElements m fact
 fact_more n m le fact h = each_map (slot_more n m le) fact.args h
 
+-- a line with elements below one bound has them below any bound that is no smaller
 line_more : (n m : ℕ) → n ≤ m → (line : Line) → LineIsBelow n line → LineIsBelow m line
 line_more n m le (Facts facts) h = each_map (fact_more n m le) facts h
 line_more n m le (Cases lists) h = each_map (λ facts has. each_map (fact_more n m le) facts has) lists h
 line_more n m le Falsum h = tt
 
+-- the line of disjuncts has its elements below a bound where the disjuncts have
 line_below : (n : ℕ) (lists : List (List Atom)) → AllByRecursion (AllByRecursion (HasElements n)) lists → LineIsBelow n (line_of lists)
 line_below n [] h = tt
 line_below n (facts ∷ []) h = h.0
 line_below n (facts ∷ more ∷ rest) h = h
 
+-- a context of the task with one of its cases is a context of the task
 pub case_is_context : (task : Task) (context : Context) (line : ℕ) (lists : List (List Atom)) (i : ℕ) (facts : List Atom) → IsContext task context
     → slice_get context.lines line ≡ Some (Cases lists) → slice_get lists i ≡ Some facts → IsContext task (with_facts context facts)
 case_is_context task context line lists i facts c is at =
@@ -132,6 +137,7 @@ module _ (n : ℕ) where
       let at : slice_index (counted 0 n) a ≡ a = let r = counted_at 0 n a h.0 in omega arith in
       let rest = args_self args h.1 in cc
 
+-- a context of the task carries over to itself, and each element stands for itself
 pub carries_self : (task : Task) (context : Context) → IsContext task context → Carries task (counted 0 context.elements) context context
 carries_self task context c =
     let n : ℕ = context.elements in

@@ -35,12 +35,14 @@ pub record Lowers (gone : ℕ) (context lacking : Context) : Type 0 where
   pub elements : context.elements ≡ lacking.elements
   pub stand : AllByRecursion (λ fact. SomeOf (LineHas fact) before) facts
 
+-- a fact that stands still stands without the line
 stands_lowered : (gone : ℕ) (context lacking : Context) → Lowers gone context lacking → (fact : Atom) → Stands context fact → Stands lacking fact
 stands_lowered gone context lacking l fact h =
     rw l.lacking_lines (some_dropped (LineHas fact) l.before (Facts l.facts) l.after
     (λ here. some_with (λ other stands same. subst (λ (f : Atom). SomeOf (LineHas f) l.before) same stands) l.facts l.stand here)
     (rw l.lines at h))
 
+-- a line of falsehood is still there without the line
 falsum_lowered : (gone : ℕ) (context lacking : Context) → Lowers gone context lacking → SomeOf (λ line. line ≡ Falsum) context.lines
     → SomeOf (λ line. line ≡ Falsum) lacking.lines
 falsum_lowered gone context lacking l h =
@@ -50,9 +52,11 @@ falsum_lowered gone context lacking l h =
 lower_below : (gone line : ℕ) → line ≤ gone → lower gone line ≡ line
 lower_below gone line h = let test : nat_lt gone line ≡ false = le-ltb gone line h in rw test
 
+-- a line after the one that is left out has a number smaller by 1
 lower_above : (gone line : ℕ) → gone < line → lower gone line ≡ line - 1
 lower_above gone line h = let test : nat_lt gone line ≡ true = lt-ltb gone line h in rw test
 
+-- another member than the one left out keeps its number before it, or has one smaller by 1 after it
 get_dropped : {X : Type 0} (before : List X) (x : X) (after : List X) (line : ℕ) (y : X) → (x ≡ y → ⊥) → slice_get (before ++ x ∷ after) line ≡ Some y
     → ((line < length before) × (slice_get (before ++ after) line ≡ Some y)) ⊎ ((length before < line) × (slice_get (before ++ after) (line - 1) ≡ Some y))
 get_dropped [] x after zero y other h = absurd (other (let same : x ≡ y = cc in same))
@@ -63,6 +67,7 @@ get_dropped (b ∷ before) x after (suc line) y other h =
     (λ r. let high : length before < line = r.0 in let e : suc line - 1 ≡ suc (line - 1) = omega arith in inr (omega arith, rw e r.1))
     (get_dropped before x after line y other h)
 
+-- a line of cases is at its lowered number where a line of facts is left out
 get_lowered : (before after : List Line) (facts : List Atom) (line : ℕ) (lists : List (List Atom))
     → slice_get (before ++ Facts facts ∷ after) line ≡ Some (Cases lists) → slice_get (before ++ after) (lower (length before) line) ≡ Some (Cases lists)
 get_lowered before after facts line lists h =
@@ -70,17 +75,20 @@ get_lowered before after facts line lists h =
     (λ r. rw (lower_above (length before) line r.0) r.1)
     (get_dropped before (Facts facts) after line (Cases lists) (λ same. absurd (cc)) h)
 
+-- a line of cases of the context is at its lowered number without the line
 cases_lowered : (gone : ℕ) (context lacking : Context) → Lowers gone context lacking → (line : ℕ) (lists : List (List Atom))
     → slice_get context.lines line ≡ Some (Cases lists) → slice_get lacking.lines (lower gone line) ≡ Some (Cases lists)
 cases_lowered gone context lacking l line lists h =
     rw (l.lacking_lines, ← l.number) (get_lowered l.before l.after l.facts line lists (rw l.lines at h))
 
+-- elements that are known are known without the line
 known_lowered : (gone : ℕ) (context lacking : Context) → Lowers gone context lacking → (count : ℕ) (args : List ℕ) → AreKnown context count args → AreKnown lacking count args
 known_lowered gone context lacking l count args h = record {
   length_is = h.length_is;
   known = subst (λ (n : ℕ). AllByRecursion (λ e. e < n) args) l.elements h.known;
 }
 
+-- a form that may be applied may be applied without the line
 instance_lowered : (gone : ℕ) (context lacking : Context) → Lowers gone context lacking → (form : Form) (args : List ℕ) → IsInstance context form args → IsInstance lacking form args
 instance_lowered gone context lacking l form args h = record {
   args_known = known_lowered gone context lacking l form.universals args h.args_known;
@@ -101,6 +109,7 @@ longer_lowered gone context lacking next next_lacking line l e f same = record {
   stand = l.stand;
 }
 
+-- after the same application on both sides, the second context still lacks the line
 after_lowered : (gone : ℕ) (context lacking : Context) (form : Form) (args : List ℕ) → Lowers gone context lacking
     → Lowers gone (after_mp context form args) (after_mp lacking form args)
 after_lowered gone context lacking form args l =
@@ -108,6 +117,7 @@ after_lowered gone context lacking form args l =
     (ap (λ (n : ℕ). lacking.lines ++ line_of (map (map (atom_at (args ++ counted n form.existentials))) form.disjuncts) ∷ []) (sym l.elements))
     (ap (λ (n : ℕ). n + form.existentials) l.elements)
 
+-- with the same facts added on both sides, the second context still lacks the line
 facts_lowered : (gone : ℕ) (context lacking : Context) (facts : List Atom) → Lowers gone context lacking → Lowers gone (with_facts context facts) (with_facts lacking facts)
 facts_lowered gone context lacking facts l =
     longer_lowered gone context lacking (with_facts context facts) (with_facts lacking facts) (Facts facts) l refl refl l.elements

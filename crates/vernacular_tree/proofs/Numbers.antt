@@ -6,14 +6,17 @@ use Rattle.std.specs.List.{AllByRecursion}
 use Rattle.vernacular_tree.specs.Contexts.{counted}
 use Rattle.text_core.proofs.Laws.{each_same, each_map}
 
+-- numbers in a row are as many as asked for
 pub counted_length : (first k : ℕ) → length (counted first k) ≡ k
 counted_length first zero = refl
 counted_length first (suc k) = ap suc (counted_length (first + 1) k)
 
+-- numbers in a row that end at a bound are below it
 pub counted_below : (first k most : ℕ) → first + k ≤ most → AllByRecursion (λ x. x < most) (counted first k)
 counted_below first zero most h = tt
 counted_below first (suc k) most h = (omega arith, counted_below (first + 1) k most (omega arith))
 
+-- the number at an index of numbers in a row is the first number plus the index
 pub counted_at : (first k c : ℕ) → c < k → slice_index (counted first k) c ≡ first + c
 counted_at first zero c h = absurd (omega arith)
 counted_at first (suc k) zero h = omega arith

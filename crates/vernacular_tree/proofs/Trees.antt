@@ -31,6 +31,7 @@ mutual
       let three : length nodes ≡ length steps = length-map steps mp_node in
       omega arith
 
+-- a body has as many nodes as applications
 pub preorder_length : (body : Body) → length (preorder body) ≡ size body
 preorder_length body =
     let first : length (end_nodes body.end) ≡ end_size body.end = end_length body.end in
@@ -38,17 +39,21 @@ preorder_length body =
     let three : length (map mp_node body.steps) ≡ length body.steps = length-map body.steps mp_node in
     omega arith
 
+-- the form of an application of modus ponens, and 0 of any other node
 abbrev form_part : Node → ℕ
 form_part (node.Mp form args) = form
 form_part _ = 0
 
+-- the arguments of an application of modus ponens, and none of any other node
 abbrev args_part : Node → List ℕ
 args_part (node.Mp form args) = args
 args_part _ = []
 
+-- two applications of modus ponens with the same node are the same
 mp_same : (x y : MpValue) → mp_node x ≡ mp_node y → x ≡ y
 mp_same x y e = λ i. record { form = ap form_part e i; args = ap args_part e i }
 
+-- nodes are steps, with no further step behind them, in at most one way
 pub steps_front : (xs ys : List MpValue) (m n : List Node) → StopsSteps m → StopsSteps n → map mp_node xs ++ m ≡ map mp_node ys ++ n → (xs ≡ ys) × (m ≡ n)
 steps_front [] [] m n a b e = (refl, e)
 steps_front [] (y ∷ ys) m n a b e = absurd (subst StopsSteps e a)
@@ -61,6 +66,7 @@ steps_front (x ∷ xs) (y ∷ ys) m n a b e =
     let others : xs ≡ ys = rest.0 in
     (cc, rest.1)
 
+-- the nodes of an end do not begin with an application of modus ponens
 pub end_stops : (e : End) (rest : List Node) → StopsSteps (end_nodes e ++ rest)
 end_stops (As disjunct args) rest = tt
 end_stops Efq rest = tt
@@ -98,6 +104,7 @@ mutual
       let third = row_front rest bs r1 r2 (omega arith) second.1 in
       ((λ i. record { steps = first.0 i; end = second.0 i } ∷ third.0 i), third.1)
 
+-- a body is at the front of nodes in at most one way
 pub body_front : (b1 b2 : Body) (r1 r2 : List Node) → preorder b1 ++ r1 ≡ preorder b2 ++ r2 → (b1 ≡ b2) × (r1 ≡ r2)
 body_front b1 b2 r1 r2 e =
     let left = append_assoc (map mp_node b1.steps) (end_nodes b1.end) r1 in
@@ -110,12 +117,15 @@ body_front b1 b2 r1 r2 e =
 abbrev pub NoBody : ℕ → List Node → Type 0
 NoBody levels nodes = (body : Body) (rest : List Node) → nodes ≡ preorder body ++ rest → nesting body ≤ levels → ⊥
 
+-- no end that nests no deeper than so many levels is at the front of the nodes
 abbrev pub NoEnd : ℕ → List Node → Type 0
 NoEnd levels nodes = (end : End) (rest : List Node) → nodes ≡ end_nodes end ++ rest → end_nesting end ≤ levels → ⊥
 
+-- no row of so many bodies that nest no deeper than so many levels is at the front of the nodes
 abbrev pub NoBranches : ℕ → ℕ → List Node → Type 0
 NoBranches count levels nodes = (bodies : List Body) (rest : List Node) → nodes ≡ flat_map preorder bodies ++ rest → length bodies ≡ count → AreShallow levels bodies → ⊥
 
+-- no body is at the front of the nodes where no end is behind their first steps
 pub body_refused : (levels : ℕ) (nodes rest : List Node) (steps : List MpValue) → nodes ≡ map mp_node steps ++ rest → StopsSteps rest
     → NoEnd levels rest → NoBody levels nodes
 body_refused levels nodes rest steps front stops none body rest2 e shallow =
@@ -123,6 +133,7 @@ body_refused levels nodes rest steps front stops none body rest2 e shallow =
     let first = steps_front steps body.steps rest (end_nodes body.end ++ rest2) stops (end_stops body.end rest2) (sym front ∙ e ∙ right) in
     none body.end rest2 first.1 shallow
 
+-- no end is at the front where a split comes first and no branches of it are behind
 pub split_refused : (levels line count : ℕ) (nodes rest : List Node) → nodes ≡ node.Cs line count ∷ rest → NoBranches count levels rest → NoEnd (levels + 1) nodes
 split_refused levels line count nodes rest front none (As disjunct args) rest2 e shallow = absurd (cc)
 split_refused levels line count nodes rest front none Efq rest2 e shallow = absurd (cc)
@@ -131,6 +142,7 @@ split_refused levels line count nodes rest front none (Cs' line2 s row) rest2 e 
     let others : rest ≡ branch_nodes row ++ rest2 = cc in
     none (bodies_of row) rest2 (others ∙ ap (λ (ns : List Node). ns ++ rest2) (row_nodes row)) (sym (row_count row) ∙ counts) (row_shallow row levels (omega arith))
 
+-- a split's node with its branches behind it is a split at the front of the nodes
 pub split_read : (levels line count : ℕ) (nodes front rest : List Node) (bodies : List Body) → nodes ≡ node.Cs line count ∷ front
     → front ≡ flat_map preorder bodies ++ rest → length bodies ≡ count → AreShallow (levels - 1) bodies → 0 < levels
     → (nodes ≡ end_nodes (Cs line bodies) ++ rest) × (end_nesting (Cs line bodies) ≤ levels)
@@ -142,21 +154,25 @@ split_read levels line count nodes front rest bodies is more many shallow some =
       le_trans deep (omega arith),
     )
 
+-- no end without a split is at the front where a split comes first
 pub deep_refused : (line count : ℕ) (nodes rest : List Node) → nodes ≡ node.Cs line count ∷ rest → NoEnd 0 nodes
 deep_refused line count nodes rest front (As disjunct args) rest2 e shallow = absurd (cc)
 deep_refused line count nodes rest front Efq rest2 e shallow = absurd (cc)
 deep_refused line count nodes rest front (Cs' line2 s row) rest2 e shallow = omega arith
 
+-- no end is at the front of no nodes
 pub empty_refused : (levels : ℕ) (nodes : List Node) → length nodes < 1 → NoEnd levels nodes
 empty_refused levels nodes none (As disjunct args) rest2 e shallow = let same = ap length e in omega arith
 empty_refused levels nodes none Efq rest2 e shallow = let same = ap length e in omega arith
 empty_refused levels nodes none (Cs' line2 s row) rest2 e shallow = let same = ap length e in omega arith
 
+-- no end is at the front where an application of modus ponens comes first
 pub step_refused : (levels form : ℕ) (args : List ℕ) (nodes rest : List Node) → nodes ≡ node.Mp form args ∷ rest → NoEnd levels nodes
 step_refused levels form args nodes rest front (As disjunct args2) rest2 e shallow = absurd (cc)
 step_refused levels form args nodes rest front Efq rest2 e shallow = absurd (cc)
 step_refused levels form args nodes rest front (Cs' line2 s row) rest2 e shallow = absurd (cc)
 
+-- no row is at the front where fewer bodies are, and no further body is behind them
 pub branches_refused : (levels count : ℕ) (nodes rest : List Node) (read : List Body) → nodes ≡ flat_map preorder read ++ rest → length read < count
     → NoBody levels rest → NoBranches count levels nodes
 branches_refused levels count nodes rest [] front few none [] rest2 e many shallow = omega arith
@@ -177,6 +193,7 @@ long_refused nodes long tree =
     let few : size tree.tree ≤ MOST_APPLICATIONS = tree.bounded.small in
     omega arith
 
+-- nodes with something left behind a body are no tree
 pub rest_refused : (nodes rest : List Node) (body : Body) → nodes ≡ preorder body ++ rest → 0 < length rest → IsTree nodes → ⊥
 rest_refused nodes rest body front more tree =
     let same = body_front tree.tree body [] rest (append-nil (preorder tree.tree) ∙ tree.preorder_is ∙ front) in
@@ -184,6 +201,7 @@ rest_refused nodes rest body front more tree =
     let count : 0 ≡ length rest = ap length none in
     omega arith
 
+-- nodes with nothing left behind a body are as many as its applications
 pub whole_is : (nodes rest : List Node) (body : Body) → nodes ≡ preorder body ++ rest → length rest ≡ 0 → length nodes ≡ size body
 whole_is nodes rest body front none =
     let count : length (preorder body) ≡ size body = preorder_length body in
