@@ -23,13 +23,6 @@ unfolding row_of shape-the_row-Body-0
 row_proves task [] lists context h = h
 row_proves task (body ∷ bodies) lists context h = (h.0, h.1, h.2, h.3, row_proves task bodies h.1 context h.4)
 
--- a row of bodies that proves each of the lists does so as a list
-pub list_proves : (task : Task) (bodies : List Body) (lists : List (List Atom)) (context : Context)
-    → EachProves task (row_of bodies) lists context → ListProves task bodies lists context
-unfolding row_of shape-the_row-Body-0
-list_proves task [] lists context h = h
-list_proves task (body ∷ bodies) lists context h = (h.0, h.1, h.2, h.3, list_proves task bodies h.1 context h.4)
-
 -- a split closes a branch where its bodies prove each of the cases of its line
 pub split_closes : (task : Task) (line : ℕ) (bodies : List Body) (lists : List (List Atom)) (context : Context)
     → slice_get context.lines line ≡ Some (Cases lists) → ListProves task bodies lists context → Closes task (Cs line bodies) context
