@@ -33,8 +33,15 @@ stored_files_code =
     (coded× (finite.code (coded_list coded_ℕ) (coded_list coded_ℕ)) (coded× coded_ℕ
     (coded× coded_ℕ (coded× (coded_list coded_ℕ) (coded× (coded_list coded_ℕ) coded_ℕ)))))
     (λ f. (f.held, (f.faults, (f.given, (f.blamed, (f.failing, f.fetches))))))
-    (λ t. record { held = t.0; faults = t.1.0; given = t.1.1.0; blamed = t.1.1.1.0; failing =
-        t.1.1.1.1.0; fetches = t.1.1.1.1.1 })
+    (λ t. record {
+      held = t.0;
+      faults = t.1.0;
+      given = t.1.1.0;
+      blamed = t.1.1.1.0;
+      failing =
+          t.1.1.1.1.0;
+      fetches = t.1.1.1.1.1;
+    })
     (λ _. refl)
 
 -- stored files are known whole

@@ -11,7 +11,7 @@ use Rattle.token_grammar.specs.Step.{Steps, Pushes}
 use Rattle.token_grammar.specs.Acting.{Acted, Continues, ComesTo}
 use Rattle.token_grammar.specs.Acting.Acted.{token, passed, replaced}
 use Rattle.token_grammar.specs.declared.part.Step.{Step}
-use Rattle.token_grammar.specs.declared.part.Step.TheVariants.{Take, Expand}
+use Rattle.token_grammar.specs.declared.part.Step.TheVariants.{Expand}
 use Rattle.token_grammar.proofs.Predicted.{numbered_among, empty_among}
 use Rattle.token_grammar.proofs.Moving.{on_top}
 use Rattle.token_grammar.proofs.Reading.{list_all-append}
