@@ -84,7 +84,7 @@ module _ (held : Held) where
           WalksItems left selections file [] []
       formula : {left : ℕ} {selections : Selections} {file : Text} {items : List Item}
           {all : List Entry} (fof : Fof) (rest : List Entry) →
-              WalksItems left selections file items rest →
+          WalksItems left selections file items rest →
           all ≡ kept_entries file selections fof ++ rest →
           WalksItems left selections file (ItemFof fof ∷ items) all
       inclusion : {left : ℕ} {selections : Selections} {file : Text} {items : List Item}

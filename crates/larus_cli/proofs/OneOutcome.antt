@@ -2,7 +2,7 @@
 -- second file, and its bytes. At each stage there is one way on.
 use Rattle.std.specs.Prelude.{◌≢◌, IfSome, IsSomeAnd}
 use Rattle.std.specs.FinMap as finite
-use Rattle.std.proofs.Common.{◌≡◌, ◌⊎◌, ◌≤◌, ◌<◌, inl, inr, ℕ, Bool, true, false, List, [], ◌∷◌, ◌++◌, length, Option, Some, None, refl, sym, ap, subst, ◌∙◌, arith}
+use Rattle.std.proofs.Common.{◌≡◌, ◌⊎◌, ◌≤◌, ◌<◌, inl, inr, ℕ, Bool, true, false, List, [], ◌++◌, length, Option, Some, None, refl, sym, ap, subst, ◌∙◌, arith}
 use Rattle.text_core.specs.declared.limits.TheConstants.{MOST_FILE_BYTES}
 use Rattle.text_core.specs.Names.{Text}
 use Rattle.text_core.proofs.Laws.{value_same}
@@ -21,7 +21,7 @@ use Rattle.proof_checker.specs.declared.check.FirstRefusal.TheVariants as first
 use Rattle.proof_checker.specs.Ground.{IsGroundProblem}
 use Rattle.proof_checker.specs.Accepted.{AcceptsWith, IsRefusedAs}
 use Rattle.proof_checker.proofs.Laws as checker
-use Rattle.larus_cli.specs.Words.{command_of, check_words, convert_words, names_in}
+use Rattle.larus_cli.specs.Words.{command_of, names_in}
 use Rattle.larus_cli.specs.Texts.{accepted_text, refused_text, usage_text, lexical_text, not_built_text, too_long_text, flat_text}
 use Rattle.larus_cli.specs.Done.{Done, accepted, converted}
 use Rattle.larus_cli.specs.Answers.{Answer, done, refused, problem_refused, problem_not_built, too_long, no_tokens, no_proof, usage, fault}

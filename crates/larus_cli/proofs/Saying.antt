@@ -1,6 +1,6 @@
 -- What is said where a command ends early is a row of the table of answers.
 use Rattle.std.specs.Prelude.{◌≢◌, IfSome}
-use Rattle.std.proofs.Common.{◌≡◌, ◌⊎◌, inl, inr, ◌++◌, false, List, Option, Some, None, ◌∙◌, sym, subst, refl, arith}
+use Rattle.std.proofs.Common.{◌≡◌, inl, inr, ◌++◌, false, List, Option, Some, None, sym, subst, refl, arith}
 use Rattle.text_core.specs.declared.limits.TheConstants.{MOST_FILE_BYTES}
 use Rattle.text_core.specs.Names.{Text}
 use Rattle.io_core.specs.Held.{Held}
@@ -9,12 +9,10 @@ use Rattle.io_core.specs.Fetched.{Grows, Fails, Holds, IsLong, IsTooLong}
 use Rattle.io_core.proofs.Laws.{grows_on}
 use Rattle.include_flat.specs.declared.refusal.FlatWhy.{FlatWhy}
 use Rattle.include_flat.specs.declared.refusal.FlatWhy.TheVariants as flat
-use Rattle.include_flat.specs.Flattened.{IsFlat}
 use Rattle.include_flat.specs.Refusals.{IsFlatRefused, IsFlatRefusal, IsOutside}
 use Rattle.proof_checker.specs.declared.ground.GroundFormula.{GroundFormula}
-use Rattle.larus_cli.specs.Words.{command_of, check_words, convert_words, NamesProblem, NamesBoth}
-use Rattle.larus_cli.specs.declared.report.Report.TheVariants.{FileFault, ProblemFile}
-use Rattle.larus_cli.specs.Done.{ReadsProblem, ReadsGround}
+use Rattle.larus_cli.specs.Words.{check_words, convert_words, NamesProblem, NamesBoth}
+use Rattle.larus_cli.specs.Done.{ReadsGround}
 use Rattle.larus_cli.specs.Answers.{Answer, of_problem, as_second, problem_refused, too_long, fault}
 use Rattle.larus_cli.specs.Texts.{flat_text, fault_text, too_long_text}
 

@@ -1,5 +1,5 @@
 -- What follows where a command ends with 0: the clauses on soundness and on what is printed.
-use Rattle.std.specs.Prelude.{◌≡◌, List, IfSome, map}
+use Rattle.std.specs.Prelude.{List, IfSome, map}
 use Rattle.text_core.specs.Names.{Text}
 use Rattle.logic_core.specs.Truth.{Structure}
 use Rattle.logic_core.specs.Problems.{Follows}

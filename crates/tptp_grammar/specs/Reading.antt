@@ -239,7 +239,7 @@ abbrev pub fof_behind : ℕ → Text × List Token → Read Item
 fof_behind depth name = option_and_then (λ ts.
     option_and_then (λ (role : Role × List Token). option_and_then (λ ts. option_and_then ended
     (reread (λ f. ItemFof (record { name = name.0; role = role.0; formula = f }))
-        (formula_at depth ts)))
+    (formula_at depth ts)))
     (behind kind.Comma role.1)) (role_from ts)) (behind kind.Comma name.1)
 
 unfoldable pub fof_from : ℕ → List Token → Read Item

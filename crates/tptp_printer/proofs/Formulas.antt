@@ -6,7 +6,7 @@ use Rattle.logic_core.specs.Allowed.{depth, greatest_depth, nesting}
 use Rattle.logic_core.specs.Allowed.{TermIsBound, AreVariables, TwoOrMore, IsBoundIn, EachIsBoundIn}
 use Rattle.logic_core.specs.declared.formula.Op.{Op}
 use Rattle.logic_core.specs.declared.formula.Term.{Term}
-use Rattle.logic_core.specs.declared.formula.Formula.{Formula, True, False, Pred, Equal, Not, And, Or, Binary, Not', And', Or', Binary', ForAll', Exists', Row_of-Formula, end_of-Formula, more_of-Formula}
+use Rattle.logic_core.specs.declared.formula.Formula.{Formula, True, False, Pred, Equal, Not, Binary, Not', And', Or', Binary', ForAll', Exists', Row_of-Formula, end_of-Formula, more_of-Formula}
 use Rattle.tptp_lexer.specs.declared.kind.Kind.{Kind}
 use Rattle.tptp_lexer.specs.declared.kind.Kind.TheVariants as kind
 use Rattle.tptp_lexer.specs.Tokens.{Token}
