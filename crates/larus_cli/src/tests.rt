@@ -291,22 +291,38 @@ fn times(alloc: Global, text: &[u8], count: u32) -> Result<Bytes, Fail> {
     Ok(all)
 }
 
+/// Asserts that the conversion of a problem beside a file `b` of the greatest length is refused
+/// with this text.
+fn assert_too_large(
+    rt: &impl Abort,
+    alloc: Global,
+    problem: &[u8],
+    text: &[u8],
+) -> Result<(), Fail> {
+    let full = times(alloc, b" ", MOST_FILE_BYTES)?;
+    let mut files = MemoryFiles::new(alloc);
+    files.insert(b"x.p", problem)?;
+    files.insert(b"b", full.as_slice())?;
+    assert_ends(rt, alloc, CONVERT, files, (2, b"", text))
+}
+
 #[test]
 fn a_problem_that_is_too_large_is_refused(rt: HostRuntime) -> Result<(), Fail> {
-    let full = times(rt.alloc(), b" ", MOST_FILE_BYTES)?;
     let long = times(rt.alloc(), b" ", MOST_FILE_BYTES + 1)?;
+    assert_too_large(&rt, rt.alloc(), long.as_slice(), b"x.p: 12 FileTooLong\n")?;
+    assert_too_large(
+        &rt,
+        rt.alloc(),
+        b"include('b'). include('b').",
+        b"b: 13 AllTooLong\n",
+    )?;
     let many = times(rt.alloc(), b"fof(a,axiom,p).", MOST_FORMULAS + 1)?;
-    let twice = b"include('b'). include('b').".as_slice();
-    let rows: [(&[u8], &[u8]); 3] = [
-        (long.as_slice(), b"x.p: 12 FileTooLong\n"),
-        (twice, b"b: 13 AllTooLong\n"),
-        (many.as_slice(), b"x.p: 15 TooManyFormulas\n"),
-    ];
-    for (problem, text) in rows {
-        let files = files_of(rt.alloc(), &[(b"x.p", problem), (b"b", full.as_slice())])?;
-        assert_ends(&rt, rt.alloc(), CONVERT, files, (2, b"", text))?;
-    }
-    Ok(())
+    assert_too_large(
+        &rt,
+        rt.alloc(),
+        many.as_slice(),
+        b"x.p: 15 TooManyFormulas\n",
+    )
 }
 
 #[test]
