@@ -291,6 +291,12 @@ fn times(alloc: Global, text: &[u8], count: u32) -> Result<Bytes, Fail> {
     Ok(all)
 }
 
+/// As many blanks as a file may have bytes.
+fn full_file(alloc: Global) -> Result<Bytes, Fail> {
+    let block = times(alloc, b" ", 4096)?;
+    times(alloc, block.as_slice(), MOST_FILE_BYTES / 4096)
+}
+
 /// Asserts that the conversion of a problem beside a file `b` of the greatest length is refused
 /// with this text.
 fn assert_too_large(
@@ -299,30 +305,26 @@ fn assert_too_large(
     problem: &[u8],
     text: &[u8],
 ) -> Result<(), Fail> {
-    let full = times(alloc, b" ", MOST_FILE_BYTES)?;
     let mut files = MemoryFiles::new(alloc);
     files.insert(b"x.p", problem)?;
-    files.insert(b"b", full.as_slice())?;
+    files.insert(b"b", full_file(alloc)?.as_slice())?;
     assert_ends(rt, alloc, CONVERT, files, (2, b"", text))
 }
 
 #[test]
-fn a_problem_that_is_too_large_is_refused(rt: HostRuntime) -> Result<(), Fail> {
-    let long = times(rt.alloc(), b" ", MOST_FILE_BYTES + 1)?;
+fn a_file_that_is_too_long_is_refused(rt: HostRuntime) -> Result<(), Fail> {
+    let mut long = full_file(rt.alloc())?;
+    long.push(b' ')?;
     assert_too_large(&rt, rt.alloc(), long.as_slice(), b"x.p: 12 FileTooLong\n")?;
-    assert_too_large(
-        &rt,
-        rt.alloc(),
-        b"include('b'). include('b').",
-        b"b: 13 AllTooLong\n",
-    )?;
+    let twice = b"include('b'). include('b').";
+    assert_too_large(&rt, rt.alloc(), twice, b"b: 13 AllTooLong\n")
+}
+
+#[test]
+fn a_problem_with_too_many_formulas_is_refused(rt: HostRuntime) -> Result<(), Fail> {
     let many = times(rt.alloc(), b"fof(a,axiom,p).", MOST_FORMULAS + 1)?;
-    assert_too_large(
-        &rt,
-        rt.alloc(),
-        many.as_slice(),
-        b"x.p: 15 TooManyFormulas\n",
-    )
+    let text = b"x.p: 15 TooManyFormulas\n";
+    assert_too_large(&rt, rt.alloc(), many.as_slice(), text)
 }
 
 #[test]
