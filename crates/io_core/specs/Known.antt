@@ -3,7 +3,6 @@ use Rattle.std.specs.Prelude.{ℕ, Option}
 use Rattle.text_core.specs.Names.{Text}
 use Rattle.io_core.specs.Held.{Held}
 
--- what is known of files
 pub record Known : Type 0 where
   -- the bytes of each name, where they are known
   pub held : Option Held

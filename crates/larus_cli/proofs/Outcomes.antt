@@ -16,7 +16,8 @@ use Rattle.proof_checker.specs.Ground.{fof_of, goals_of}
 use Rattle.proof_checker.specs.Accepted.{IsAccepted}
 use Rattle.larus_cli.specs.Words.{command_of, check_words, convert_words, names_in}
 use Rattle.larus_cli.specs.Done.{Done, accepted, converted}
-use Rattle.larus_cli.specs.Follows.{ReadsBack, ProblemFollows, ProblemPrinted}
+use Rattle.larus_cli.specs.Follows.{ProblemFollows}
+use Rattle.larus_cli.specs.Printed.{ReadsBack, ProblemPrinted}
 use Rattle.larus_cli.specs.Answers.{IsAsked, of_problem, as_second, Answer, done, refused, problem_refused, problem_not_built}
 use Rattle.larus_cli.specs.Answers.{too_long, no_tokens, no_proof, usage, fault}
 use Rattle.larus_cli.specs.Outcome.{Sinks, sinks, PutsTo, Outcome, answered, broken, out_of_memory}

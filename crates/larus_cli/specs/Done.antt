@@ -12,7 +12,7 @@ use Rattle.proof_checker.specs.Ground.{IsGroundProblem}
 use Rattle.proof_checker.specs.Accepted.{AcceptsWith}
 use Rattle.larus_cli.specs.Texts.{accepted_text}
 use Rattle.larus_cli.specs.Words.{check_words, convert_words}
-use Rattle.larus_cli.specs.Follows.{ReadsBack}
+use Rattle.larus_cli.specs.Printed.{ReadsBack}
 
 -- the problem in this file, with the files that it includes, is flat with these formulas, where the
 -- files tell what they hold

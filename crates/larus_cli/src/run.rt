@@ -6,7 +6,8 @@ ghost use Rattle.io_core.specs.Causes.{Rose};
 ghost use Rattle.io_core.specs.Fetched.{Grows};
 ghost use Rattle.io_core.specs.Stream.{Puts, Breaks};
 ghost use Rattle.larus_cli.specs.Words.{command_of};
-ghost use Rattle.larus_cli.specs.Follows.{ProblemFollows, ProblemPrinted};
+ghost use Rattle.larus_cli.specs.Follows.{ProblemFollows};
+ghost use Rattle.larus_cli.specs.Printed.{ProblemPrinted};
 ghost use Rattle.larus_cli.specs.Outcome.{Outcome, sinks};
 
 use crate::command::read_words;

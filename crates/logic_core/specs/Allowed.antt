@@ -1,10 +1,11 @@
 -- Which formulas and items may be in a problem: closed formulas that are not nested too deep. The
 -- nesting is that of the value: the greatest number of levels that are open at one token of its
 -- canonical text, where brackets, negations and quantifiers open levels.
-use Rattle.std.specs.Prelude.{ℕ, ◌+◌, ◌≤◌, max, List, [], ◌++◌, Some, None, IsTrue}
+use Rattle.std.specs.Prelude.{ℕ, ◌+◌, ◌≤◌, max, List, [], ◌∷◌, ◌++◌, Some, None, IsTrue}
 use Rattle.std.specs.List.{AllByRecursion}
-use Rattle.text_core.specs.Names.{Text, is_upper_word}
-use Rattle.text_core.specs.Lists.{IsAmong, HasOne}
+use Rattle.text_core.specs.Names.{Text}
+use Rattle.text_core.specs.NameTexts.{is_upper_word}
+use Rattle.text_core.specs.Lists.{IsAmong}
 use Rattle.text_core.specs.declared.limits.TheConstants.{MOST_LEVELS}
 use Rattle.logic_core.specs.declared.formula.Term.{Term}
 use Rattle.logic_core.specs.declared.formula.Term.TheVariants.{Variable, Constant}
@@ -43,6 +44,11 @@ nesting f = depth f
 abbrev pub TermIsBound : List Text → Term → Type 0
 TermIsBound scope (Variable x) = IsAmong x scope × IsTrue (is_upper_word x)
 TermIsBound scope (Constant c) = Unit {0}
+
+-- a list has a member
+abbrev pub HasOne : {X : Type 0} → List X → Type 0
+HasOne [] = ⊥
+HasOne (x ∷ xs) = Unit {0}
 
 -- a quantifier binds one or more variables, each an upper word
 abbrev pub AreVariables : List Text → Type 0

@@ -1,7 +1,8 @@
 -- Laws for every crate: on lists, on members, on items by their number, on fronts, on tests, on options and on exact answers.
 use Rattle.std.proofs.Common.{◌≡◌, ℕ, zero, suc, ◌+◌, ◌<◌, ◌≤◌, ◌==◌, ◌⊎◌, inl, inr, Bool, true, false, not, ◌&&◌, ◌||◌, List, [], ◌∷◌, ◌++◌, map, length, take, slice_get, slice_index, Some, Ok, Err, refl, ap, subst, arith, add-one}
 use Rattle.std.specs.List.{AllByRecursion}
-use Rattle.text_core.specs.Names.{Text, IsPrintable, IsNameText}
+use Rattle.text_core.specs.Names.{Text}
+use Rattle.text_core.specs.NameTexts.{IsPrintable, IsNameText}
 use Rattle.text_core.specs.Lists.{SomeOf, IsAmong}
 use Rattle.text_core.specs.Exact.{Exact}
 

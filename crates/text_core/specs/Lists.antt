@@ -10,8 +10,3 @@ SomeOf P (x ∷ xs) = P x ⊎ SomeOf P xs
 -- a value is a member
 abbrev pub IsAmong : {X : Type 0} → X → List X → Type 0
 IsAmong x ys = SomeOf (λ y. y ≡ x) ys
-
--- a list has a member
-abbrev pub HasOne : {X : Type 0} → List X → Type 0
-HasOne [] = ⊥
-HasOne (x ∷ xs) = Unit {0}

@@ -1,30 +1,18 @@
--- Texts as lists of bytes, and which texts may be names.
-use Rattle.std.specs.Prelude.{ℕ, ◌≤◌, Bool, false, ◌&&◌, ◌||◌, nat_le, ◌==◌, List, [], ◌∷◌}
+-- Texts as lists of bytes, and classes of bytes.
+use Rattle.std.specs.Prelude.{ℕ, Bool, false, ◌&&◌, ◌||◌, nat_le, ◌==◌, List, [], ◌∷◌}
 use Rattle.std.specs.List.{list_all}
 
 -- a text, byte by byte
 abbrev pub Text : Type 0
 Text = List ℕ
 
--- each byte is printable ASCII, from the blank to the tilde
-abbrev pub IsPrintable : Text → Type 0
-IsPrintable [] = Unit {0}
-IsPrintable (b ∷ bs) = (32 ≤ b) × (b ≤ 126) × IsPrintable bs
-
--- a name has one or more bytes, each printable ASCII
-abbrev pub IsNameText : Text → Type 0
-IsNameText [] = ⊥
-IsNameText (b ∷ bs) = IsPrintable (b ∷ bs)
-
--- a to z
+-- a to z, A to Z, 0 to 9
 abbrev pub is_lower : ℕ → Bool
 is_lower b = nat_le 97 b && nat_le b 122
 
--- A to Z
 abbrev pub is_upper : ℕ → Bool
 is_upper b = nat_le 65 b && nat_le b 90
 
--- 0 to 9
 abbrev pub is_digit : ℕ → Bool
 is_digit b = nat_le 48 b && nat_le b 57
 
@@ -45,7 +33,3 @@ begins_with b (c ∷ cs) = c == b
 abbrev pub is_word_from : (ℕ → Bool) → Text → Bool
 is_word_from first [] = false
 is_word_from first (b ∷ bs) = first b && list_all is_word bs
-
--- a word that names a variable (the TPTP syntax, upper_word)
-abbrev pub is_upper_word : Text → Bool
-is_upper_word text = is_word_from is_upper text

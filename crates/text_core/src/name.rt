@@ -4,7 +4,7 @@ ghost use Rattle.std.specs.Cmp.Lexicographic.{pointwise, nat_list_eq_equiv};
 ghost use Rattle.std.specs.Cmp.Rules.{hashing};
 ghost use Rattle.std.specs.Hash as fed;
 ghost use Rattle.std.proofs.Common.{rules, nat_eq};
-ghost use Rattle.text_core.specs.Names.{IsNameText};
+ghost use Rattle.text_core.specs.NameTexts.{IsNameText};
 
 use crate::list::Bytes;
 use crate::memory::Memory;
@@ -21,7 +21,7 @@ pub struct Name {
 
 impl Model for Name {
     ghost use Rattle.std.specs.Prelude.{List, ℕ};
-    ghost use Rattle.text_core.specs.Names.{IsNameText};
+    ghost use Rattle.text_core.specs.NameTexts.{IsNameText};
 
     ghost Value = { List ℕ };
 

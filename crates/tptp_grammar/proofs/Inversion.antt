@@ -13,7 +13,8 @@ use Rattle.tptp_lexer.specs.Tokens.{Token}
 use Rattle.tptp_grammar.specs.declared.mark.Mark.{Mark}
 use Rattle.tptp_grammar.specs.declared.mark.Mark.TheVariants.{Fof, Include, Role as RoleMark, Truth, Upper, Connective, Other}
 use Rattle.tptp_grammar.specs.Parts.{same_kind, is_kind, is_lower, is_word, is_name, is_upper, is_plain}
-use Rattle.tptp_grammar.specs.Roles.{role_text, roles, role_of}
+use Rattle.tptp_grammar.specs.Roles.{role_text}
+use Rattle.tptp_grammar.specs.RoleWords.{roles, role_of}
 use Rattle.tptp_grammar.specs.Marks.{role_mark, marked, mark_in}
 use Rattle.tptp_grammar.specs.Spells.{op_kind, IsWord, IsNaming}
 

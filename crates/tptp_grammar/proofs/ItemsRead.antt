@@ -15,7 +15,8 @@ use Rattle.tptp_lexer.specs.declared.kind.Kind.TheVariants as kind
 use Rattle.tptp_lexer.specs.Tokens.{Token, name_of}
 use Rattle.tptp_grammar.specs.declared.name_reader.Naming.TheVariants as naming
 use Rattle.text_core.specs.declared.limits.TheConstants.{MOST_LEVELS}
-use Rattle.tptp_grammar.specs.Roles.{role_text, role_of}
+use Rattle.tptp_grammar.specs.Roles.{role_text}
+use Rattle.tptp_grammar.specs.RoleWords.{role_of}
 use Rattle.tptp_grammar.specs.Reading.{Read, behind, reread, name_from, behind_dot, ended, role_from, formula_at, fof_behind, fof_from, selection_from, include_behind, include_from, item_from, items_from}
 use Rattle.tptp_grammar.specs.Spells.{IsAnnotation, SpellsSelection, SpellsInclude, SpellsItem, SpellsItems}
 use Rattle.tptp_grammar.specs.Spells.IsAnnotation.{no_annotation, source_alone, source_with}

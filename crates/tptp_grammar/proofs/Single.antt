@@ -3,7 +3,8 @@ use Rattle.std.specs.Prelude.{◌≡◌, ◌+◌, ◌||◌, ◌&&◌, ◌⊎◌,
 use Rattle.std.specs.List.{list_any}
 use Rattle.std.proofs.Common.{refl, sym, ◌∙◌, ap, inl, inr, subst, arith}
 use Rattle.text_core.specs.Lists.{IsAmong}
-use Rattle.text_core.specs.Names.{Text, is_upper_word}
+use Rattle.text_core.specs.Names.{Text}
+use Rattle.text_core.specs.NameTexts.{is_upper_word}
 use Rattle.logic_core.specs.declared.formula.Op.{Op}
 use Rattle.logic_core.specs.declared.formula.Op.TheVariants as op
 use Rattle.logic_core.specs.declared.problem.Role.{Role}
@@ -20,7 +21,8 @@ use Rattle.tptp_grammar.specs.declared.mark.Mark.TheVariants.{Fof, Include, Role
 use Rattle.tptp_grammar.specs.declared.item_part.ItemPart.TheVariants as parts
 use Rattle.tptp_grammar.specs.Parts.{takes, is_kind, is_lower, is_word, is_name, is_plain, is_upper, same_kind}
 use Rattle.tptp_grammar.specs.Limits.{Bindings, open_at, is_bound, used, look}
-use Rattle.tptp_grammar.specs.Roles.{role_of, role_text}
+use Rattle.tptp_grammar.specs.Roles.{role_text}
+use Rattle.tptp_grammar.specs.RoleWords.{role_of}
 use Rattle.tptp_grammar.specs.Marks.{mark_in, marked, lower_mark, dollar_mark, role_mark, number_of}
 use Rattle.tptp_grammar.specs.Spells.{IsWord, IsNaming, op_kind}
 use Rattle.tptp_grammar.proofs.Agreement.{Agrees, agrees_with}

@@ -4,7 +4,8 @@ use Rattle.std.specs.List.{AllByRecursion}
 use Rattle.std.proofs.Common.{refl, sym, ◌∙◌, ap, inl, inr, subst, append_assoc}
 use Rattle.text_core.specs.Lists.{IsAmong}
 use Rattle.text_core.proofs.Laws.{among_back}
-use Rattle.text_core.specs.Names.{Text, is_upper_word}
+use Rattle.text_core.specs.Names.{Text}
+use Rattle.text_core.specs.NameTexts.{is_upper_word}
 use Rattle.logic_core.specs.Allowed.{TermIsBound, AreVariables}
 use Rattle.logic_core.specs.declared.formula.Term.{Term}
 use Rattle.logic_core.specs.declared.formula.Term.TheVariants.{Variable, Constant}

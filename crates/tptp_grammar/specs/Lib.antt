@@ -5,6 +5,7 @@ pub mod Printed
 pub mod PrintedLaw
 pub mod Limits
 pub mod Roles
+pub mod RoleWords
 pub mod Marks
 pub mod Numbering
 pub mod Spells

@@ -8,7 +8,7 @@ use Rattle.logic_core.specs.declared.problem.Role.{Role}
 use Rattle.tptp_lexer.specs.declared.kind.Kind.{Kind}
 use Rattle.tptp_lexer.specs.declared.kind.Kind.TheVariants as kind
 use Rattle.tptp_lexer.specs.Tokens.{Token}
-use Rattle.tptp_grammar.specs.Roles.{role_of}
+use Rattle.tptp_grammar.specs.RoleWords.{role_of}
 use Rattle.tptp_grammar.specs.declared.mark.Mark.{Mark}
 use Rattle.tptp_grammar.specs.declared.mark.Mark.TheVariants.{Fof, Include, Role as RoleMark, Truth, Upper, Connective, Other}
 

@@ -23,7 +23,7 @@ use Rattle.tptp_grammar.specs.declared.name_reader.Naming.TheVariants as naming
 use Rattle.tptp_grammar.specs.declared.name_reader.NotRead.{NotRead}
 use Rattle.tptp_grammar.specs.declared.name_reader.NotRead.TheVariants.{NoText, Memory}
 use Rattle.tptp_grammar.specs.Parts.{same_kind}
-use Rattle.tptp_grammar.specs.Roles.{role_of}
+use Rattle.tptp_grammar.specs.RoleWords.{role_of}
 
 -- what is read, a value with what is left, or nothing
 abbrev pub Read : Type 0 → Type 0

@@ -1,6 +1,5 @@
 -- The roles of formulas and the words that tell them. Source: the TPTP syntax, FOF.
-use Rattle.std.specs.Prelude.{List, [], ◌∷◌, find, Option, codes}
-use Rattle.std.specs.Str.{bytes_eq}
+use Rattle.std.specs.Prelude.{codes}
 use Rattle.text_core.specs.Names.{Text}
 use Rattle.logic_core.specs.declared.problem.Role.{Role}
 use Rattle.logic_core.specs.declared.problem.Role.TheVariants.{Axiom, Hypothesis, Definition, Assumption, Lemma, Theorem, Corollary, NegatedConjecture, Conjecture}
@@ -16,12 +15,3 @@ role_text Theorem = codes "theorem"
 role_text Corollary = codes "corollary"
 role_text NegatedConjecture = codes "negated_conjecture"
 role_text Conjecture = codes "conjecture"
-
--- the nine roles
-abbrev pub roles : List Role
-roles = Axiom ∷ Hypothesis ∷ Definition ∷ Assumption ∷ Lemma ∷ Theorem ∷ Corollary ∷
-    NegatedConjecture ∷ Conjecture ∷ []
-
--- the role that a word tells
-unfoldable pub role_of : Text → Option Role
-role_of text = find (λ role. bytes_eq text (role_text role)) roles

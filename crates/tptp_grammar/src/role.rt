@@ -1,5 +1,6 @@
 ghost use Rattle.std.specs.Prelude.{◌≡◌};
-ghost use Rattle.tptp_grammar.specs.Roles.{role_of, role_text};
+ghost use Rattle.tptp_grammar.specs.Roles.{role_text};
+ghost use Rattle.tptp_grammar.specs.RoleWords.{role_of};
 
 use logic_core::Role;
 
@@ -16,7 +17,7 @@ const ROLES: [Role; 9] = [
 ];
 
 /// The role that a word tells. Source: the TPTP syntax, FOF.
-#[tactic(auto, unfolding(crate::specs::Roles::role_of))]
+#[tactic(auto, unfolding(crate::specs::RoleWords::role_of))]
 pub(crate) fn role_of(text: &[u8]) -> Option<Role>
     ensures { result ≡ role_of text.now }
 {

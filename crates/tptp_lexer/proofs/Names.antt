@@ -7,7 +7,8 @@ use borrow.Author.Tests.{ltb-true, lt-ltb}
 use Rattle.std.proofs.lemmas.Bool.Decides.{nat_tests}
 use Rattle.std.proofs.lemmas.List.{drop_more}
 use Rattle.std.proofs.lemmas.Slice.Eq.{bytes_eq-Decides}
-use Rattle.text_core.specs.Names.{Text, IsPrintable, IsNameText}
+use Rattle.text_core.specs.Names.{Text}
+use Rattle.text_core.specs.NameTexts.{IsPrintable, IsNameText}
 use Rattle.text_core.proofs.Laws.{and_both, or_neither, name_printable}
 use Rattle.tptp_lexer.specs.declared.kind.Kind.{Kind}
 use Rattle.tptp_lexer.specs.declared.kind.Kind.TheVariants.{Quoted}

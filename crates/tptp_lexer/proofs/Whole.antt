@@ -4,7 +4,8 @@ use Rattle.std.specs.Prelude.{bytes_eq}
 use Rattle.std.specs.List.{list_all}
 use Rattle.std.proofs.Math.Bool.{and-false}
 use Rattle.std.proofs.lemmas.Bool.{eqb-true}
-use Rattle.text_core.specs.Names.{Text, is_lower, is_upper, is_digit, is_word, is_word_from, is_upper_word}
+use Rattle.text_core.specs.Names.{Text, is_lower, is_upper, is_digit, is_word, is_word_from}
+use Rattle.text_core.specs.NameTexts.{is_upper_word}
 use Rattle.text_core.proofs.Laws.{and_both, not_true}
 use Rattle.tptp_lexer.specs.declared.kind.Kind.TheVariants.{Lower, Upper, Integer, Dollar}
 use Rattle.tptp_lexer.specs.Kinds.{kind_of, is_natural, is_integer}

@@ -55,33 +55,18 @@ is_sign sign text = bytes_eq text sign
 -- each kind of token, with the test that tells its texts; each sign is a kind of its own
 abbrev pub kinds : List (Kind × (Text → Bool))
 kinds =
-    (Lower, is_word_from is_lower) ∷
-    (Upper, is_word_from is_upper) ∷
-    (Quoted, is_quoted_word) ∷
-    (Distinct, is_quoted 34) ∷
-    (Integer, is_integer) ∷
-    (Dollar, is_dollar_word) ∷
-    (OpenParenthesis, is_sign (codes "(")) ∷
-    (CloseParenthesis, is_sign (codes ")")) ∷
-    (OpenBracket, is_sign (codes "[")) ∷
-    (CloseBracket, is_sign (codes "]")) ∷
-    (Comma, is_sign (codes ",")) ∷
-    (Dot, is_sign (codes ".")) ∷
-    (Colon, is_sign (codes ":")) ∷
-    (Exclamation, is_sign (codes "!")) ∷
-    (Question, is_sign (codes "?")) ∷
-    (Tilde, is_sign (codes "~")) ∷
-    (Ampersand, is_sign (codes "&")) ∷
-    (Bar, is_sign (codes "|")) ∷
-    (Implies, is_sign (codes "=>")) ∷
-    (Implied, is_sign (codes "<=")) ∷
-    (Iff, is_sign (codes "<=>")) ∷
-    (Xor, is_sign (codes "<~>")) ∷
-    (Nor, is_sign (codes "~|")) ∷
-    (Nand, is_sign (codes "~&")) ∷
-    (Equal, is_sign (codes "=")) ∷
-    (NotEqual, is_sign (codes "!=")) ∷
-    []
+    (Lower, is_word_from is_lower) ∷ (Upper, is_word_from is_upper) ∷
+    (Quoted, is_quoted_word) ∷ (Distinct, is_quoted 34) ∷
+    (Integer, is_integer) ∷ (Dollar, is_dollar_word) ∷
+    (OpenParenthesis, is_sign (codes "(")) ∷ (CloseParenthesis, is_sign (codes ")")) ∷
+    (OpenBracket, is_sign (codes "[")) ∷ (CloseBracket, is_sign (codes "]")) ∷
+    (Comma, is_sign (codes ",")) ∷ (Dot, is_sign (codes ".")) ∷ (Colon, is_sign (codes ":")) ∷
+    (Exclamation, is_sign (codes "!")) ∷ (Question, is_sign (codes "?")) ∷
+    (Tilde, is_sign (codes "~")) ∷ (Ampersand, is_sign (codes "&")) ∷ (Bar, is_sign (codes "|")) ∷
+    (Implies, is_sign (codes "=>")) ∷ (Implied, is_sign (codes "<=")) ∷
+    (Iff, is_sign (codes "<=>")) ∷ (Xor, is_sign (codes "<~>")) ∷
+    (Nor, is_sign (codes "~|")) ∷ (Nand, is_sign (codes "~&")) ∷
+    (Equal, is_sign (codes "=")) ∷ (NotEqual, is_sign (codes "!=")) ∷ []
 
 -- the kind whose test a text passes
 abbrev pub kind_among : List (Kind × (Text → Bool)) → Text → Option Kind

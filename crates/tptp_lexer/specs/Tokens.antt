@@ -16,10 +16,6 @@ pub record Token : Type 0 where
 abbrev pub is_blank : ℕ → Bool
 is_blank b = b == 32 || b == 9 || b == 10 || b == 13
 
--- the bytes hold no line feed
-abbrev pub is_in_line : Text → Bool
-is_in_line bs = list_all (λ b. not (b == 10)) bs
-
 -- the bytes are none, or begin with a line feed
 abbrev pub is_end_of_line : Text → Bool
 is_end_of_line [] = true
@@ -30,10 +26,10 @@ abbrev pub is_unclosed : Text → Bool
 is_unclosed [] = true
 is_unclosed (b ∷ bs) = not (b == 42 && begins_with 47 bs) && is_unclosed bs
 
--- `%` (37) and what follows up to the end of the line, where the rest begins
+-- `%` (37) and what follows, without a line feed, up to the end of the line, where the rest begins
 abbrev pub IsLineComment : Text → Text → Type 0
-IsLineComment text rest =
-    (body : Text) × (text ≡ 37 ∷ body) × (is_in_line body ≡ true) × (is_end_of_line rest ≡ true)
+IsLineComment text rest = (body : Text) × (text ≡ 37 ∷ body) ×
+    (list_all (λ b. not (b == 10)) body ≡ true) × (is_end_of_line rest ≡ true)
 
 -- `/*`, bytes in which no `*/` begins, and `*/`, which is the first one wholly behind the `/*`
 abbrev pub IsBlockComment : Text → Type 0

@@ -2,7 +2,8 @@
 use Rattle.std.proofs.Common.{◌≡◌, ℕ, ◌≤◌, true, List, length, drop, [], ◌∷◌, ◌++◌, map, Option, Some, None, codes, refl, ap, sym, ◌∙◌, subst, arith}
 use Rattle.std.specs.List.{AllByRecursion}
 use Rattle.std.proofs.lemmas.List.{append-nil, drop_all}
-use Rattle.text_core.specs.Names.{Text, IsNameText, is_lower, is_word_from}
+use Rattle.text_core.specs.Names.{Text, is_lower, is_word_from}
+use Rattle.text_core.specs.NameTexts.{IsNameText}
 use Rattle.logic_core.specs.Allowed.{FofIsAllowed, ItemIsAllowed}
 use Rattle.logic_core.specs.declared.problem.Role.{Role}
 use Rattle.logic_core.specs.declared.problem.Role.TheVariants as role

@@ -3,7 +3,8 @@ use Rattle.std.proofs.Common.{◌≡◌, ℕ, ◌≤◌, ◌==◌, inl, inr, Boo
 use Rattle.std.specs.Prelude.{IsTrue, bytes_eq}
 use Rattle.std.proofs.lemmas.Bool.{cond_both}
 use Rattle.std.proofs.lemmas.Bool.Decides.{nat_tests}
-use Rattle.text_core.specs.Names.{Text, IsPrintable, IsNameText, is_lower, is_word_from, is_upper_word}
+use Rattle.text_core.specs.Names.{Text, is_lower, is_word_from}
+use Rattle.text_core.specs.NameTexts.{IsPrintable, IsNameText, is_upper_word}
 use Rattle.text_core.proofs.Laws.{or_neither, name_printable}
 use Rattle.tptp_lexer.specs.declared.kind.Kind.{Kind}
 use Rattle.tptp_lexer.specs.declared.kind.Kind.TheVariants.{Lower, Upper, Quoted, Integer, Dollar}

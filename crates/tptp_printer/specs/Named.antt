@@ -1,7 +1,8 @@
 -- Items whose names are texts of names, as those of all values in code are.
 use Rattle.std.specs.Prelude.{List, Option, Some, None}
 use Rattle.std.specs.List.{AllByRecursion}
-use Rattle.text_core.specs.Names.{Text, IsNameText}
+use Rattle.text_core.specs.Names.{Text}
+use Rattle.text_core.specs.NameTexts.{IsNameText}
 use Rattle.logic_core.specs.declared.formula.Term.{Term}
 use Rattle.logic_core.specs.declared.formula.Term.TheVariants.{Variable, Constant}
 use Rattle.logic_core.specs.declared.formula.Formula.{Formula, True, False, Pred, Equal, Not', And', Or', Binary', ForAll', Exists', Row_of-Formula, end_of-Formula, more_of-Formula}

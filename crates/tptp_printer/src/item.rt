@@ -1,6 +1,6 @@
 ghost use Rattle.std.specs.Prelude.{◌≡◌, ◌++◌, map, codes, OnOk};
 ghost use Rattle.std.specs.List.{AllByRecursion};
-ghost use Rattle.text_core.specs.Names.{IsNameText};
+ghost use Rattle.text_core.specs.NameTexts.{IsNameText};
 ghost use Rattle.logic_core.specs.declared.problem.Item.TheVariants.{Fof as ItemFof, Include};
 ghost use Rattle.tptp_grammar.specs.Roles.{role_text};
 ghost use Rattle.tptp_printer.specs.Canonical.{name_text, joined_texts, selection_text, item_text};

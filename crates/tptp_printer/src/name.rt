@@ -1,5 +1,5 @@
 ghost use Rattle.std.specs.Prelude.{◌≡◌, ◌++◌, OnOk};
-ghost use Rattle.text_core.specs.Names as names;
+ghost use Rattle.text_core.specs.NameTexts.{IsNameText};
 ghost use Rattle.tptp_printer.specs.Canonical.{escaped, quoted_text, word_text, name_text};
 
 use text_core::{Bytes, Memory, Name, is_lower_word};
@@ -30,7 +30,7 @@ fn put_quoted(bytes: &[u8], out: &mut Bytes) -> Result<(), Memory>
 /// Appends a predicate or a constant.
 pub(crate) fn put_word(name: &Name, out: &mut Bytes) -> Result<(), Memory>
     ensures text { OnOk result (out.new ≡ out.old ++ word_text name.now) }
-    ensures named { names.IsNameText name.now }
+    ensures named { IsNameText name.now }
 {
     let bytes = name.bytes();
     if is_lower_word(bytes) {
@@ -43,7 +43,7 @@ pub(crate) fn put_word(name: &Name, out: &mut Bytes) -> Result<(), Memory>
 /// Appends the name of a formula.
 pub(crate) fn put_name(name: &Name, out: &mut Bytes) -> Result<(), Memory>
     ensures text { OnOk result (out.new ≡ out.old ++ name_text name.now) }
-    ensures named { names.IsNameText name.now }
+    ensures named { IsNameText name.now }
 {
     let bytes = name.bytes();
     if is_lower_word(bytes) || is_integer(bytes) {
@@ -56,7 +56,7 @@ pub(crate) fn put_name(name: &Name, out: &mut Bytes) -> Result<(), Memory>
 /// Appends the name of a file.
 pub(crate) fn put_file(name: &Name, out: &mut Bytes) -> Result<(), Memory>
     ensures text { OnOk result (out.new ≡ out.old ++ quoted_text name.now) }
-    ensures named { names.IsNameText name.now }
+    ensures named { IsNameText name.now }
 {
     put_quoted(name.bytes(), out)
 }

@@ -1,5 +1,6 @@
 use Rattle.std.proofs.Common.{◌≡◌, sym, ◌∙◌, subst, IfOk}
-use Rattle.text_core.specs.Names.{Text, IsNameText}
+use Rattle.text_core.specs.Names.{Text}
+use Rattle.text_core.specs.NameTexts.{IsNameText}
 use Rattle.tptp_lexer.proofs.Names.{body_name, no_escape}
 use Rattle.tptp_lexer.proofs.name.unescaped_name.Goals as goal
 
