@@ -6,7 +6,6 @@ pub mod PrintedLaw
 pub mod Limits
 pub mod Roles
 pub mod Marks
-pub mod Numbering
 pub mod Spells
 pub mod Texts
 pub mod Told
