@@ -14,6 +14,7 @@ use Rattle.token_grammar.proofs.Predicted.{Safe, predicted_taken, safe_replaced}
 use Rattle.token_grammar.proofs.Leaves.{by_chosen, by_token, leaves_start}
 use Rattle.token_grammar.proofs.Spelling.{taken_spelled, taken_begun, begun_taken}
 use Rattle.token_grammar.proofs.Reading.{last_of-append}
+use Rattle.token_grammar.proofs.Seeing.{sees_apart, sees_once}
 use Rattle.text_core.proofs.Laws.{take_next, take_all}
 
 -- no tokens have no takers
@@ -24,41 +25,16 @@ none_taken (part alternative a rest) = none_taken rest
 -- the beginning of what is taken is taken
 pub front_taken : {P T : Type 0} {g : Grammar P T} {whole : Bool} {row : List P} {all : List T} {takers : List P} →
     Taken g whole row all takers → (us vs : List T) → all ≡ us ++ vs →
-    (qs : List P) × (rs : List P) × (takers ≡ qs ++ rs) × (length qs ≡ length us) × Taken g false row us qs
-front_taken {takers = takers} taken [] vs e = ([], takers, refl, refl, stop tt)
+    (qs : List P) × ((rs : List P) × (takers ≡ qs ++ rs)) × Taken g false row us qs
+front_taken {takers = takers} taken [] vs e = ([], (takers, refl), stop tt)
 front_taken (stop h) (u ∷ us) vs e = cc
 front_taken {g = g} (token {p = p} {row = row} {t = t} {ts = ts} h rest) (u ∷ us) vs e =
     let one : t ≡ u = cc in
     let tail : ts ≡ us ++ vs = cc in
-    let (qs, rs, split, same, front) = front_taken rest us vs tail in (
-      p ∷ qs,
-      rs,
-      ap (λ x. p ∷ x) split,
-      ap suc same,
-      subst (λ x. Taken g false (p ∷ row) (x ∷ us) (p ∷ qs)) one (token h front),
-    )
+    let (qs, (rs, split), front) = front_taken rest us vs tail in
+    (p ∷ qs, (rs, ap (λ x. p ∷ x) split), subst (λ x. Taken g false (p ∷ row) (x ∷ us) (p ∷ qs)) one (token h front))
 front_taken (part alternative a rest) (u ∷ us) vs e =
-    let (qs, rs, split, same, front) = front_taken rest (u ∷ us) vs e in
-    (qs, rs, split, same, part alternative a front)
-
--- what is seen is seen from the front on
-pub front_seen : {P T S F : Type 0} (watcher : Watcher P T S F) (qs rs : List P) (us vs : List T) (before after : S) → length qs ≡ length us →
-    Sees watcher before (qs ++ rs) (us ++ vs) after → (between : S) × Sees watcher before qs us between × Sees watcher between rs vs after
-front_seen watcher [] rs [] vs before after same seen = (before, refl, seen)
-front_seen watcher [] rs (u ∷ us) vs before after same seen = absurd (omega arith)
-front_seen watcher (q ∷ qs) rs [] vs before after same seen = absurd (omega arith)
-front_seen watcher (q ∷ qs) rs (u ∷ us) vs before after same (next, first, rest) =
-    let (between, front, back) = front_seen watcher qs rs us vs next after (omega arith) rest in
-    (between, (next, first, front), back)
-
-module _ {P T S F : Type 0} (watcher : Watcher P T S F) (decided : IsDecided watcher) where
-  one_seen : (takers : List P) (ts : List T) (before a b : S) → Sees watcher before takers ts a → Sees watcher before takers ts b → a ≡ b
-  one_seen [] [] before a b first second = first ∙ sym second
-  one_seen [] (t ∷ ts) before a b first second = absurd first
-  one_seen (p ∷ ps) [] before a b first second = absurd first
-  one_seen (p ∷ ps) (t ∷ ts) before a b (x, h, first) (y, k, second) =
-      let same = decided.one_state before p t x y h k in
-      one_seen ps ts y a b (subst (λ s. Sees watcher s ps ts a) same first) second
+    let (qs, found, front) = front_taken rest (u ∷ us) vs e in (qs, found, part alternative a front)
 
 module _ {P T : Type 0} (g : Grammar P T) (plan : Plan P T) (law : IsPredictive g plan) where
   -- which parts take the tokens is settled by the tokens
@@ -74,6 +50,7 @@ module _ {P T : Type 0} (g : Grammar P T) (plan : Plan P T) (law : IsPredictive 
       one_taking others (safe_replaced g plan law p row alternative a safe) rest
       (by_chosen g plan law p p row alternative safe chosen second)
 
+  -- which parts take a text, or the beginning of one, is settled by the tokens
   pub one_taking_of_text : (start : P) (whole other : Bool) (ts : List T) (takers others : List P) →
       Taken g whole (start ∷ []) ts takers → Taken g other (start ∷ []) ts others → takers ≡ others
   one_taking_of_text start whole other ts takers others first second =
@@ -111,24 +88,26 @@ module _ {P T S F : Type 0} (g : Grammar P T) (plan : Plan P T) (watcher : Watch
   Barrier : ℕ → Type 0
   Barrier n = (m : ℕ) → n < m → CleanTo m → ⊥
 
+  -- where more of the tokens begin a text without a fault, fewer do
   clean_front : (n m : ℕ) → n ≤ m → CleanTo m → CleanTo n
   unfolding CleanTo
   clean_front n m h (takers, now, clean) =
       let (vs, e) = front_of ts n m h in
-      let (qs, rs, split, same, front) =
-      front_taken clean.taken (take n ts) vs e in
+      let (qs, (rs, split), front) = front_taken clean.taken (take n ts) vs e in
       let all = subst (λ us. Sees watcher before takers us now) e clean.seen in
       let (between, seen, rest) =
-      front_seen watcher qs rs (take n ts) vs before now same
+      sees_apart watcher qs rs (take n ts) vs before now (taken_length front)
       (subst (λ ps. Sees watcher before ps (take n ts ++ vs) now) split all) in
       (qs, between, record { taken = front; seen = seen })
 
+  -- behind an unexpected token no tokens begin a text
   unexpected_barrier : (after : S) (n : ℕ) (last : Option P) → IsUnexpected g watcher start before ts after n last → Barrier n
   unfolding CleanTo Barrier
   unexpected_barrier after n last u m h c =
       let (qs, now, clean) = clean_front (n + 1) m (omega arith) c in
       u.first.refused (begun_taken g clean.taken)
 
+  -- behind a token at which the watcher stops no tokens are without a fault
   stopped_barrier : (n : ℕ) (fault : F) → IsStopped g watcher start before ts n fault → Barrier n
   unfolding CleanTo Barrier
   stopped_barrier n fault s m h c =
@@ -138,20 +117,23 @@ module _ {P T S F : Type 0} (g : Grammar P T) (plan : Plan P T) (watcher : Watch
       let same = one_taking_of_text g plan law start false false (take n ts ++ (tok ∷ [])) qs (takers ++ (taker ∷ []))
       (subst (λ us. Taken g false (start ∷ []) us qs) next clean.taken) taken in
       let all = subst (λ us. Sees watcher before qs us now) next clean.seen in
-      let (b, seen, (x, k, end)) = front_seen watcher takers (taker ∷ []) (take n ts) (tok ∷ []) before now
+      let (b, seen, (x, k, end)) = sees_apart watcher takers (taker ∷ []) (take n ts) (tok ∷ []) before now
       (taken_length first.taken) (subst (λ ps. Sees watcher before ps (take n ts ++ (tok ∷ [])) now) same all) in
-      let equal = one_seen watcher decided takers (take n ts) before b between seen first.seen in
+      let equal = sees_once watcher decided takers (take n ts) before b between seen first.seen in
       decided.apart between taker tok x fault (subst (λ s. watcher.sees s taker tok x) equal k) faulted
 
+  -- the tokens before an unexpected one begin a text without a fault
   unexpected_clean : (after : S) (n : ℕ) (last : Option P) → IsUnexpected g watcher start before ts after n last → CleanTo n
   unfolding CleanTo
   unexpected_clean after n last u = let (takers, clean, ending) = u.clean in (takers, after, clean)
 
+  -- the tokens before one at which the watcher stops begin a text without a fault
   stopped_clean : (n : ℕ) (fault : F) → IsStopped g watcher start before ts n fault → CleanTo n
   unfolding CleanTo
   stopped_clean n fault s =
       let (takers, between, taker, tok, at, first, taken, faulted) = s.found in (takers, between, first)
 
+  -- all tokens that are taken and seen begin a text without a fault
   whole_clean : (whole : Bool) (after : S) (takers : List P) → IsClean g watcher whole start before ts takers after → CleanTo (length ts)
   unfolding CleanTo
   whole_clean whole after takers clean =
@@ -164,12 +146,15 @@ module _ {P T S F : Type 0} (g : Grammar P T) (plan : Plan P T) (watcher : Watch
         },
       )
 
+  -- accepted tokens begin a text without a fault
   accepted_clean : (after : S) → IsAccepted g watcher start before ts after → CleanTo (length ts)
   accepted_clean after a = whole_clean true after a.clean.0 a.clean.1
 
+  -- tokens that end early begin a text without a fault
   early_clean : (after : S) → IsEarlyEnd g watcher start before ts after → CleanTo (length ts)
   early_clean after e = whole_clean false after e.clean.0 e.clean.1
 
+  -- two numbers up to which, and no further, the tokens begin a text without a fault are the same
   same_number : (i j : ℕ) → CleanTo i → CleanTo j → Barrier i → Barrier j → i ≡ j
   unfolding Barrier
   same_number i j first second here there = elim (cases_order i j) [
@@ -177,6 +162,7 @@ module _ {P T S F : Type 0} (g : Grammar P T) (plan : Plan P T) (watcher : Watch
     | inr apart ↦ elim apart [ inl less ↦ absurd (here j less second) | inr more ↦ absurd (there i more first) ]
   ]
 
+  -- two unexpected tokens are one, with one part before it
   one_unexpected : (a b : S) (i j : ℕ) (last other : Option P) → IsUnexpected g watcher start before ts a i last →
       IsUnexpected g watcher start before ts b j other → ◌≡◌ {A = Refusal P F} (Unexpected i last) (Unexpected j other)
   one_unexpected a b i j last other u v =
@@ -188,6 +174,7 @@ module _ {P T S F : Type 0} (g : Grammar P T) (plan : Plan P T) (watcher : Watch
       (subst (λ n. Taken g false (start ∷ []) (take n ts) others) (sym one) also.taken) in
       cc (ap last_of same)
 
+  -- no token is unexpected where the watcher stops
   no_both : (a : S) (i j : ℕ) (last : Option P) (fault : F) → IsUnexpected g watcher start before ts a i last →
       IsStopped g watcher start before ts j fault → ⊥
   no_both a i j last fault u s =
@@ -195,6 +182,7 @@ module _ {P T S F : Type 0} (g : Grammar P T) (plan : Plan P T) (watcher : Watch
       (unexpected_barrier a i last u) (stopped_barrier j fault s) in
       u.first.refused (subst (λ n. BeginsText g start (take (n + 1) ts)) (sym one) s.begins)
 
+  -- at one token the watcher stops with one fault
   faults_at : (n : ℕ) (e f : F) → IsStopped g watcher start before ts n e → IsStopped g watcher start before ts n f → e ≡ f
   faults_at n e f s r =
       let (takers, between, taker, tok, at, first, taken, faulted) = s.found in
@@ -205,13 +193,14 @@ module _ {P T S F : Type 0} (g : Grammar P T) (plan : Plan P T) (watcher : Watch
       one_taking_of_text g plan law start false false (take n ts ++ (tok ∷ [])) (takers' ++ (taker' ∷ [])) (takers ++ (taker ∷ []))
       (subst (λ t. Taken g false (start ∷ []) (take n ts ++ (t ∷ [])) (takers' ++ (taker' ∷ []))) one_tok taken') taken in
       let one_taker : taker' ≡ taker = cc (ap last_of all, last_of-append takers' taker', last_of-append takers taker) in
-      let one_state = one_seen watcher decided takers (take n ts) before between' between
+      let one_state = sees_once watcher decided takers (take n ts) before between' between
       (subst (λ ps. Sees watcher before ps (take n ts) between') same first'.seen) first.seen in
       decided.one_fault between taker tok e f faulted
       (subst (λ s. watcher.faults s taker tok f) one_state
       (subst (λ p. watcher.faults between' p tok f) one_taker
       (subst (λ t. watcher.faults between' taker' t f) one_tok faulted')))
 
+  -- two stops of the watcher are one
   one_stopped : (i j : ℕ) (e f : F) → IsStopped g watcher start before ts i e → IsStopped g watcher start before ts j f →
       ◌≡◌ {A = Refusal P F} (Stopped i e) (Stopped j f)
   one_stopped i j e f s r =
@@ -219,6 +208,7 @@ module _ {P T S F : Type 0} (g : Grammar P T) (plan : Plan P T) (watcher : Watch
       let fault = faults_at i e f s (subst (λ n. IsStopped g watcher start before ts n f) (sym one) r) in
       cc
 
+  -- two answers for the same tokens, neither of them want of memory, are one
   pub answers_agree : (a b : S) (first second : Result (Unit {0}) (Refusal P F)) → IsAnswer g watcher start before ts a first →
       IsAnswer g watcher start before ts b second → AreOne first second
   unfolding Barrier
@@ -254,11 +244,13 @@ module _ {P T S F : Type 0} (g : Grammar P T) (plan : Plan P T) (watcher : Watch
   answers_agree a b (Err (Stopped number fault)) (Err (Stopped other also)) h k = ap Err (one_stopped number other fault also h k)
 
 module _ {P T : Type 0} (g : Grammar P T) (start : P) where
+  -- a text begins a text
   pub text_begins : (ts : List T) → IsText g start ts → BeginsText g start ts
   text_begins ts text = let (takers, taken) = taken_spelled g text in begun_taken g (any_end taken)
 
+  -- the first tokens of what begins a text begin one
   pub front_begins : (front back : List T) → BeginsText g start (front ++ back) → BeginsText g start front
   front_begins front back begun =
       let (takers, taken) = taken_begun g begun in
-      let (first, rest, split, same, begins) = front_taken taken front back refl in
+      let (first, rest, begins) = front_taken taken front back refl in
       begun_taken g begins

@@ -21,6 +21,7 @@ module _ {P T B : Type 0} (g : Grammar P T) (Value : P → Type 0) (making : Mak
       ((b : B) → after_members Value effect (front ++ back) values b ≡
       after_members Value effect back second (after_members Value effect front first b))
 
+  -- the values of joined rows are split where the rows are joined
   split_values : (front back : List P) (values : RowValues Value (front ++ back)) (ts : List T) →
       SpelledRow g Value making (front ++ back) values ts → SplitValues front back values ts
   unfolding SplitValues
@@ -41,6 +42,7 @@ module _ {P T B : Type 0} (g : Grammar P T) (Value : P → Type 0) (making : Mak
   BuiltPart : (p : P) → List T → B → B → Type 0
   BuiltPart p ts before after = (value : Value p) × SpelledAs g Value making p value ts × (after ≡ effect p value before)
 
+  -- a part that stands for a row has the value made of the values of the row
   built_part : (p : P) (row : List P) → IsAmong row (g.alternatives p) → (values : RowValues Value row) (ts : List T) (before : B) →
       SpelledRow g Value making row values ts → BuiltPart p ts before (after_row Value effect passes p row values before)
   unfolding BuiltPart
@@ -56,6 +58,7 @@ module _ {P T B : Type 0} (g : Grammar P T) (Value : P → Type 0) (making : Mak
   BuiltRow row before ts after = (values : RowValues Value row) × SpelledRow g Value making row values ts ×
       (after ≡ after_members Value effect row values before)
 
+  -- the value of a part in front of those of a row
   built_more : (p : P) (row : List P) (us ts : List T) (before between after : B) → BuiltPart p us before between →
       BuiltRow row between ts after → BuiltRow (p ∷ row) before (us ++ ts) after
   unfolding BuiltPart BuiltRow
@@ -65,10 +68,12 @@ module _ {P T B : Type 0} (g : Grammar P T) (Value : P → Type 0) (making : Mak
     f ∙ ap (after_members Value effect row values) e,
   )
 
+  -- a part that takes a token has the value made of it
   built_token : (p : P) (t : T) (before : B) → IsTrue (g.takes p t) → BuiltPart p (t ∷ []) before (takes p t before)
   unfolding BuiltPart
   built_token p t before taken = (making.of_token p t taken, of_token t taken refl refl, building.token p t taken before)
 
+  -- a part that was replaced by a row with members has a value
   built_replaced : (p q : P) (rest row : List P) (ts : List T) (before after : B) → IsAmong (q ∷ rest) (g.alternatives p) →
       BuiltRow (q ∷ (rest ++ row)) before ts after → BuiltRow (p ∷ row) before ts after
   unfolding BuiltRow SplitValues
@@ -78,6 +83,7 @@ module _ {P T B : Type 0} (g : Grammar P T) (Value : P → Type 0) (making : Mak
       subst (λ x. BuiltRow (p ∷ row) before x after) (sym split)
       (built_more p row us vs before (after_members Value effect (q ∷ rest) first before) after part (second, back, e ∙ members before))
 
+  -- what was done over tokens is the effect of the values of a row
   built_row : {row : List P} {ts : List T} {before after : B} → Acted g takes passes row before ts after → BuiltRow row before ts after
   unfolding BuiltRow
   built_row (ended e) = (tt, none, e)

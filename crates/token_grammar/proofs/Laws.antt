@@ -1,14 +1,16 @@
 -- What the laws of a grammar, of its watcher and of its builder are made of, in the crates above.
-use Rattle.std.proofs.Common.{◌≡◌, ◌⊎◌, refl, sym, subst, inl, inr, List, [], ◌∷◌}
+use Rattle.std.proofs.Common.{◌≡◌, ◌⊎◌, refl, inl, inr, List, [], ◌∷◌}
 use Rattle.std.specs.Prelude.{IsTrue, Result, Ok, Err}
 use Rattle.token_grammar.specs.Grammar.{Grammar}
-use Rattle.token_grammar.specs.Watch.{Watcher, Sees, IsDecided, watcher_of}
+use Rattle.token_grammar.specs.Watch.{IsDecided, watcher_of}
 use Rattle.token_grammar.specs.Making.{Choice, element, RowValues}
 use Rattle.token_grammar.specs.Productions.{Makers, made_at, making_by}
 use Rattle.token_grammar.specs.Building.{IsBuilding, RowLaws, after_row}
 pub use Rattle.token_grammar.proofs.Spelling.{joined, spelled_taken}
-pub use Rattle.token_grammar.proofs.Agreement.{answers_agree, one_taking_of_text}
+pub use Rattle.token_grammar.proofs.Agreement.{answers_agree, one_taking_of_text, taken_length}
 pub use Rattle.token_grammar.proofs.Answered.{tokens_answered}
+pub use Rattle.token_grammar.proofs.Refused.{refusals_agree, accepted_not_refused}
+pub use Rattle.token_grammar.proofs.Seeing.{sees_both, sees_apart, sees_keep}
 
 -- a result is a value or an error
 result_is : {X E : Type 0} (result : Result X E) → ((x : X) × result ≡ Ok x) ⊎ ((e : E) × result ≡ Err e)
@@ -23,16 +25,6 @@ computed_decided look = record {
   one_fault = λ s p t e f h k. cc;
   apart = λ s p t a f h k. cc;
 }
-
--- what holds before the tokens holds after them where it holds after each
-pub sees_keep : {P T S F : Type 0} (watcher : Watcher P T S F) (Holds : S → Type 0) →
-    ((before after : S) (p : P) (t : T) → watcher.sees before p t after → Holds before → Holds after) →
-    (takers : List P) (ts : List T) (before after : S) → Sees watcher before takers ts after → Holds before → Holds after
-sees_keep watcher Holds keeps [] [] before after seen holds = subst Holds (sym seen) holds
-sees_keep watcher Holds keeps [] (t ∷ ts) before after seen holds = absurd seen
-sees_keep watcher Holds keeps (p ∷ ps) [] before after seen holds = absurd seen
-sees_keep watcher Holds keeps (p ∷ ps) (t ∷ ts) before after (between, first, rest) holds =
-    sees_keep watcher Holds keeps ps ts between after rest (keeps before between p t first holds)
 
 -- a builder's law from the law of its tokens and one for each row
 pub building_by : {P T B : Type 0} (g : Grammar P T) (Value : P → Type 0) (made_of : (p : P) (t : T) → IsTrue (g.takes p t) → Value p)

@@ -1,14 +1,17 @@
 pub mod Predicted
 pub mod Leaves
 pub mod Spelling
+pub mod Seeing
 pub mod Reading
 pub mod Moving
 pub mod Acting
 pub mod Built
 pub mod Agreement
 pub mod Answered
+pub mod Refused
 pub mod Translated
 pub mod OfValues
 pub mod OneValue
 pub mod Telling
+pub mod Folding
 pub mod Laws

@@ -28,15 +28,18 @@ lighter_as g plan a b c d first second h = rw (first, second) h
 
 module _ {P T : Type 0} (g : Grammar P T) (plan : Plan P T) (p : P) (t : T) (stack below new : List P) (step : Step)
     (popped : stack ≡ below ++ (p ∷ [])) (does : Steps g plan p t below new step) (is : step ≡ Expand) where
+  -- the chosen row was pushed
   pushes : Pushes (predicted g plan p t) below new
   pushes = rw is at does
 
+  -- the stack weighs less after an expansion
   pub lighter : IsPredictive g plan → weight g plan (reverse new) < weight g plan (reverse stack)
   lighter law =
       let (row, chosen, now) = pushed (predicted g plan p t) below new pushes in
       let less = weight_replaced g plan law p (reverse below) row (numbered_among (plan.chosen p t) row (g.alternatives p) chosen) in
       lighter_as g plan (reverse new) (row ++ reverse below) (reverse stack) (p ∷ reverse below) now (ap reverse popped ∙ on_top below p) less
 
+  -- the stack is an expanded row still
   pub expanded_further : (first : List P) → Expanded g plan t first (reverse stack) → Expanded g plan t first (reverse new)
   expanded_further first before =
       let (row, chosen, now) = pushed (predicted g plan p t) below new pushes in

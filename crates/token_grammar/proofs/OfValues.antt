@@ -1,12 +1,12 @@
 -- Each text has a value, and what a value spells is a text.
-use Rattle.std.proofs.Common.{◌≡◌, refl, sym, ◌∙◌, subst, inl, inr, List, [], ◌∷◌, ◌++◌, append-nil}
+use Rattle.std.proofs.Common.{◌≡◌, refl, sym, ◌∙◌, subst, inl, inr, List, [], ◌∷◌, append-nil}
 use Rattle.text_core.specs.Lists.{IsAmong}
 use Rattle.token_grammar.specs.Grammar.{Grammar, Spelled}
 use Rattle.token_grammar.specs.Making.{Choice, element, RowValues, Making}
 use Rattle.token_grammar.specs.SpelledAs.{SpelledAs, SpelledRow}
 use Rattle.token_grammar.specs.SpelledAs.SpelledAs.{of_token, of_row}
 use Rattle.token_grammar.specs.SpelledAs.SpelledRow.{none, member}
-use Rattle.token_grammar.proofs.Spelling.{join_spelled}
+use Rattle.token_grammar.proofs.Spelling.{InTwo, spelled_joined}
 
 -- a member of a list is the element of a choice
 pub choice_among : {A : Type 0} (list : List A) (a : A) → IsAmong a list → (choice : Choice list) × (element list choice ≡ a)
@@ -23,8 +23,9 @@ element_among (a ∷ list) (inr choice) = inr (element_among list choice)
 module _ {P T : Type 0} (g : Grammar P T) (Value : P → Type 0) (making : Making g Value) where
   -- a row's first member and the others, each with what they spell
   pub first_spelled : (p : P) (row : List P) (values : RowValues Value (p ∷ row)) (all : List T) → SpelledRow g Value making (p ∷ row) values all →
-      (us : List T) × (ts : List T) × SpelledAs g Value making p values.0 us × SpelledRow g Value making row values.1 ts × (all ≡ us ++ ts)
-  first_spelled p row values all (member us ts first later e) = (us, ts, first, later, e)
+      InTwo (SpelledAs g Value making p values.0) (SpelledRow g Value making row values.1) all
+  first_spelled p row values all (member us ts first later e) =
+      record { front = us; back = ts; split = e; first = first; second = later }
 
   -- what a row of one member spells its value spells
   pub spelled_alone : (p : P) (values : RowValues Value (p ∷ [])) (ts : List T) → SpelledRow g Value making (p ∷ []) values ts →
@@ -52,6 +53,7 @@ module _ {P T : Type 0} (g : Grammar P T) (Value : P → Type 0) (making : Makin
       let (values, back) = row_values rest in
       ((value, values), member us ts whole back e)
 
+  -- what a part spells has a value
   pub part_value : (p : P) (ts : List T) → Spelled g (p ∷ []) ts → (value : Value p) × SpelledAs g Value making p value ts
   part_value p ts spelled = let (values, s) = row_values spelled in (values.0, spelled_alone p values ts s)
 
@@ -63,7 +65,8 @@ module _ {P T : Type 0} (g : Grammar P T) (Value : P → Type 0) (making : Makin
         Spelled.part (element (g.alternatives p) choice) ts [] (element_among (g.alternatives p) choice) (row_spelled made) Spelled.none
         (sym (append-nil ts))
 
+    -- what a row's values spell is spelled by the row
     pub row_spelled : {row : List P} {values : RowValues Value row} {ts : List T} → SpelledRow g Value making row values ts → Spelled g row ts
     row_spelled none = Spelled.none
     row_spelled {row = p ∷ row} (member us ts first later e) =
-        subst (Spelled g (p ∷ row)) (sym e) (join_spelled g (value_spelled first) (row_spelled later))
+        subst (Spelled g (p ∷ row)) (sym e) (spelled_joined g (value_spelled first) (row_spelled later))

@@ -15,7 +15,7 @@ use Rattle.token_grammar.specs.SpelledAs.SpelledAs.{of_token, of_row}
 use Rattle.token_grammar.specs.SpelledAs.SpelledRow.{member}
 use Rattle.token_grammar.proofs.Predicted.{Safe, implied, takes_alone, choices_pass, asks_taken, predicted_taken, safe_replaced, no_nullable, taken_nullable}
 use Rattle.token_grammar.proofs.Leaves.{leaves_start}
-use Rattle.token_grammar.proofs.Spelling.{joined, join_spelled, taken_spelled}
+use Rattle.token_grammar.proofs.Spelling.{joined, spelled_joined, taken_spelled}
 use Rattle.token_grammar.proofs.OfValues.{choice_among, element_among, first_spelled, value_spelled, row_spelled}
 use Rattle.text_core.proofs.Laws.{no_front}
 
@@ -32,6 +32,7 @@ choice_empty (row ∷ rows) (inl here) h = or_left _ _ h
 choice_empty (row ∷ rows) (inr choice) h = or_right _ _ (choice_empty rows choice h)
 
 module _ {P T : Type 0} (g : Grammar P T) (plan : Plan P T) where
+  -- a token for which no alternative is chosen asks for none
   none_asks : (p : P) (t : T) (rows : List (List P)) → choice_passes g plan p t None rows ≡ true → (choice : Choice rows) →
       asks g plan p t (element rows choice) ≡ true → ⊥
   none_asks p t [] h choice asked = choice
@@ -58,6 +59,7 @@ module _ {P T : Type 0} (g : Grammar P T) (plan : Plan P T) where
       let later = (and_parts (follow_passes g plan p t row) _ (and_parts _ _ h).1).1 in
       ap inr (asked_once p t (one_less number) rows later i j first second)
 
+  -- behind an empty alternative no other is empty
   one_empty : (row : List P) (rows : List (List P)) → cond (is_empty row) (not (has_empty rows)) (not (all_nullable g row)) ≡ true →
       is_empty row ≡ true → has_empty rows ≡ false
   one_empty [] rows h e = not-true _ h
@@ -80,18 +82,21 @@ nothing_taken : {P T : Type 0} {g : Grammar P T} {us : List T} {takers : List P}
 nothing_taken (stop h) = refl
 
 module _ {P T : Type 0} (g : Grammar P T) (plan : Plan P T) (law : IsPredictive g plan) where
+  -- a token that the first part takes stands first in what the row takes
   token_first : (p : P) (row : List P) (t : T) {us : List T} {takers : List P} → g.takes p t ≡ true → Taken g true (p ∷ row) us takers →
-      (u : T) × (rest : List T) × (later : List P) × (us ≡ u ∷ rest) × Taken g true row rest later
+      (rest : List T) × ((u : T) × (us ≡ u ∷ rest)) × ((later : List P) × Taken g true row rest later)
   token_first p row t h (stop leave) = absurd leave
-  token_first p row t h (token {t = u} {ts = ts} {takers = later} k rest) = (u, ts, later, refl, rest)
+  token_first p row t h (token {t = u} {ts = ts} {takers = later} k rest) = (ts, (u, refl), (later, rest))
   token_first p row t h (part alternative a rest) = absurd (takes_alone g plan law p t alternative h a)
 
+  -- what a row takes by an alternative of its first part, it takes by some alternative
   part_first : (p : P) (row alternative : List P) {us : List T} {takers : List P} → IsAmong alternative (g.alternatives p) →
       Taken g true (p ∷ row) us takers → (other : List P) × IsAmong other (g.alternatives p) × Taken g true (other ++ row) us takers
   part_first p row alternative a (stop leave) = absurd leave
   part_first p row alternative a (token {t = u} h rest) = absurd (takes_alone g plan law p u alternative h a)
   part_first p row alternative a (part other b rest) = (other, b, rest)
 
+  -- two alternatives by which a row takes the same tokens are one, or there are no tokens
   same_alternative : (p : P) (row first second : List P) → Safe g plan (p ∷ row) → IsAmong first (g.alternatives p) →
       IsAmong second (g.alternatives p) → (all : List T) (ps qs : List P) → Taken g true (first ++ row) all ps →
       Taken g true (second ++ row) all qs → (all ≡ []) ⊎ (second ≡ first)
@@ -108,7 +113,7 @@ module _ {P T : Type 0} (g : Grammar P T) (plan : Plan P T) (law : IsPredictive 
   split_once {row = []} (stop h) below vs qs safe dv others left ps' qs' second dl e = sym (nothing_taken second)
   split_once {row = p ∷ row} (stop h) below vs qs safe dv others left ps' qs' second dl e = absurd h
   split_once (token {p = p} {row = row} {t = t} {ts = ts} h rest) below vs qs safe dv others left ps' qs' second dl e =
-      let (u, later, takers, first, tail) = token_first p row t h second in
+      let (later, (u, first), (takers, tail)) = token_first p row t h second in
       let all : t ∷ (ts ++ vs) ≡ u ∷ (later ++ left) = e ∙ ap (λ x. x ++ left) first in
       let one : t ≡ u = cc in
       let equal : ts ++ vs ≡ later ++ left = cc in
@@ -126,6 +131,7 @@ module _ {P T : Type 0} (g : Grammar P T) (plan : Plan P T) (law : IsPredictive 
             dv others left ps' qs' (subst (λ r. Taken g true (r ++ row) others ps') same tail) dl e
       ]
 
+  -- an alternative whose members may all stand for no tokens is the empty one
   nullable_empty : (p : P) (row : List P) → IsAmong row (g.alternatives p) → all_nullable g row ≡ true → is_empty row ≡ true
   nullable_empty p [] a h = refl
   nullable_empty p (q ∷ row) a h = absurd (both_ways _ (no_nullable g plan law p q row a) h)
@@ -168,17 +174,18 @@ module _ {P T : Type 0} (g : Grammar P T) (plan : Plan P T) (law : IsPredictive 
       (values : RowValues Value (p ∷ row)) → SpelledRow g Value making (p ∷ row) values all →
       SpelledAs g Value making p values.0 us × SpelledRow g Value making row values.1 ts
   aligned p row us ts all first second split below later safe end values spelled =
-      let (us', ts', s, k, e) = first_spelled g Value making p row values all spelled in
+      let it = first_spelled g Value making p row values all spelled in
       let (ps, d) = taken_spelled g first in
-      let (ps', d') = taken_spelled g (value_spelled g Value making s) in
-      let (qs, f) = taken_spelled g (join_spelled g second end) in
-      let (qs', f') = taken_spelled g (join_spelled g (row_spelled g Value making k) end) in
-      let whole : us' ++ (ts' ++ later) ≡ us ++ (ts ++ later) =
-      sym (append_assoc us' ts' later) ∙ (ap (λ x. x ++ later) (sym e ∙ split) ∙ append_assoc us ts later) in
-      let same = split_once g plan law d' (row ++ below) (ts' ++ later) qs' safe f' us (ts ++ later) ps qs d f whole in
-      let rest = append_cancel_left us ts' ts (ap (λ x. x ++ ts') (sym same) ∙ (sym e ∙ split)) in
-      (subst (SpelledAs g Value making p values.0) same s, subst (SpelledRow g Value making row values.1) rest k)
+      let (ps', d') = taken_spelled g (value_spelled g Value making it.first) in
+      let (qs, f) = taken_spelled g (spelled_joined g second end) in
+      let (qs', f') = taken_spelled g (spelled_joined g (row_spelled g Value making it.second) end) in
+      let whole : it.front ++ (it.back ++ later) ≡ us ++ (ts ++ later) =
+      sym (append_assoc it.front it.back later) ∙ (ap (λ x. x ++ later) (sym it.split ∙ split) ∙ append_assoc us ts later) in
+      let same = split_once g plan law d' (row ++ below) (it.back ++ later) qs' safe f' us (ts ++ later) ps qs d f whole in
+      let rest = append_cancel_left us it.back ts (ap (λ x. x ++ it.back) (sym same) ∙ (sym it.split ∙ split)) in
+      (subst (SpelledAs g Value making p values.0) same it.first, subst (SpelledRow g Value making row values.1) rest it.second)
 
+  -- the value of a part that takes a token is made of the token
   token_value : (p : P) (t : T) (taken : g.takes p t ≡ true) (value : Value p) → SpelledAs g Value making p value (t ∷ []) → value ≡ making.of_token p t taken
   token_value p t taken value (of_token u taken' is e) =
       let one : t ≡ u = cc in
@@ -187,10 +194,12 @@ module _ {P T : Type 0} (g : Grammar P T) (plan : Plan P T) (law : IsPredictive 
   token_value p t taken value (of_row choice values made is) =
       absurd (takes_alone g plan law p t (element (g.alternatives p) choice) taken (element_among (g.alternatives p) choice))
 
+  -- the value of a part is made of the values of this alternative
   MadeAt : (p : P) → Choice (g.alternatives p) → Value p → List T → Type 0
   MadeAt p choice value us = (values : RowValues Value (element (g.alternatives p) choice)) ×
       SpelledRow g Value making (element (g.alternatives p) choice) values us × (value ≡ making.of_row p choice values)
 
+  -- the value of a part is made of the values of the alternative that its tokens spell
   made_at : (p : P) (row : List P) (choice : Choice (g.alternatives p)) (us later : List T) → Safe g plan (p ∷ row) →
       Spelled g (element (g.alternatives p) choice) us → Spelled g row later → (value : Value p) → SpelledAs g Value making p value us →
       MadeAt p choice value us
@@ -201,10 +210,12 @@ module _ {P T : Type 0} (g : Grammar P T) (plan : Plan P T) (law : IsPredictive 
       let same = same_choice g plan law p row other choice us later safe (row_spelled g Value making made) first end in
       subst (λ i. MadeAt p i value us) same (values, made, is)
 
+  -- no two lists of values of the row spell the tokens
   OneRow : List P → List T → Type 0
   OneRow row ts = (first second : RowValues Value row) → SpelledRow g Value making row first ts → SpelledRow g Value making row second ts →
       first ≡ second
 
+  -- no two values of a part spell the same tokens, where that holds of its alternative
   one_part : (p : P) (row : List P) (choice : Choice (g.alternatives p)) (us later : List T) → Safe g plan (p ∷ row) →
       Spelled g (element (g.alternatives p) choice) us → Spelled g row later → OneRow (element (g.alternatives p) choice) us →
       (first second : Value p) → SpelledAs g Value making p first us → SpelledAs g Value making p second us → first ≡ second
@@ -214,9 +225,11 @@ module _ {P T : Type 0} (g : Grammar P T) (plan : Plan P T) (law : IsPredictive 
       let (others, l, also) = made_at p row choice us later safe spelled end second r in
       (is ∙ ap (making.of_row p choice) (one values others k l)) ∙ sym also
 
-  pairs : (p : P) (row : List P) (first second : RowValues Value (p ∷ row)) → first.0 ≡ second.0 → first.1 ≡ second.1 → first ≡ second
-  pairs p row first second e f = λ i. (e i, f i)
+  -- values are one where the first is and the others are
+  values_pair : (p : P) (row : List P) (first second : RowValues Value (p ∷ row)) → first.0 ≡ second.0 → first.1 ≡ second.1 → first ≡ second
+  values_pair p row first second e f = λ i. (e i, f i)
 
+  -- no two lists of values of a row spell the same tokens
   one_row : {row : List P} {ts : List T} → Spelled g row ts → (below : List P) (later : List T) → Safe g plan (row ++ below) →
       Spelled g below later → OneRow row ts
   unfolding OneRow
@@ -225,20 +238,21 @@ module _ {P T : Type 0} (g : Grammar P T) (plan : Plan P T) (law : IsPredictive 
       let one = Spelled.token taken Spelled.none in
       let (s, tail) = aligned p row (t ∷ []) ts (t ∷ ts) one rest refl below later safe end first k in
       let (r, tail') = aligned p row (t ∷ []) ts (t ∷ ts) one rest refl below later safe end second l in
-      pairs p row first second (token_value p t taken first.0 s ∙ sym (token_value p t taken second.0 r))
+      values_pair p row first second (token_value p t taken first.0 s ∙ sym (token_value p t taken second.0 r))
       (one_row rest below later safe.1 end first.1 second.1 tail tail')
   one_row (Spelled.part {p = p} {row = row} {all = all} alternative us ts a inner rest e) below later safe end = λ first second k l.
       let one = Spelled.part alternative us [] a inner Spelled.none (sym (append-nil us)) in
       let (s, tail) = aligned p row us ts all one rest e below later safe end first k in
       let (r, tail') = aligned p row us ts all one rest e below later safe end second l in
       let (choice, same) = choice_among (g.alternatives p) alternative a in
-      let after = join_spelled g rest end in
+      let after = spelled_joined g rest end in
       let inside = one_row inner (row ++ below) (ts ++ later) (safe_replaced g plan law p (row ++ below) alternative a safe) after in
-      pairs p row first second
+      values_pair p row first second
       (one_part p (row ++ below) choice us (ts ++ later) safe (subst (λ x. Spelled g x us) (sym same) inner) after
       (subst (λ x. OneRow x us) (sym same) inside) first.0 second.0 s r)
       (one_row rest below later safe.1 end first.1 second.1 tail tail')
 
+  -- no two values of a part spell the same tokens
   pub one_value : (p : P) (ts : List T) (first second : Value p) → SpelledAs g Value making p first ts → SpelledAs g Value making p second ts → first ≡ second
   unfolding OneRow
   one_value p ts first second s r =

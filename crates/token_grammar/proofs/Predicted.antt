@@ -57,6 +57,7 @@ numbered_among (Some (suc n)) row (other ∷ rows) h = inr (numbered_among (Some
 module _ {P T : Type 0} (g : Grammar P T) (plan : Plan P T) where
   -- rows that are joined
 
+  -- a token that may begin two joined rows may begin the first, or the second behind no tokens of the first
   pub begins-append : (row below : List P) (t : T) → row_begins g plan (row ++ below) t ≡ true →
       (row_begins g plan row t ≡ true) ⊎ ((all_nullable g row ≡ true) × (row_begins g plan below t ≡ true))
   begins-append [] below t h = inr (refl, h)
@@ -69,6 +70,7 @@ module _ {P T : Type 0} (g : Grammar P T) (plan : Plan P T) where
         ]
   ]
 
+  -- where each member of two joined rows may stand for no tokens, each of either does
   pub nullable-append : (row below : List P) → all_nullable g (row ++ below) ≡ true →
       (all_nullable g row ≡ true) × (all_nullable g below ≡ true)
   nullable-append [] below h = (refl, h)
@@ -77,6 +79,7 @@ module _ {P T : Type 0} (g : Grammar P T) (plan : Plan P T) where
       let both = nullable-append row below later in
       (and_from _ _ empty both.0, both.1)
 
+  -- a row behind one that stands for some token adds no weight
   pub weight-append : (row below : List P) → all_nullable g row ≡ false → weight g plan (row ++ below) ≡ weight g plan row
   weight-append [] below h = absurd (true≢false h)
   weight-append (p ∷ row) below h = elim (and_cases (is_nullable g p) (all_nullable g row) h) [
@@ -86,11 +89,13 @@ module _ {P T : Type 0} (g : Grammar P T) (plan : Plan P T) where
 
   -- one row of a list of alternatives
 
+  -- an alternative is empty, or stands for some token
   filled : (row : List P) (rows : List (List P)) → cond (is_empty row) (not (has_empty rows)) (not (all_nullable g row)) ≡ true →
       (is_empty row || not (all_nullable g row)) ≡ true
   filled [] rows h = refl
   filled (q ∷ row) rows h = h
 
+  -- an alternative of rows that pass is empty or stands for some token, and weighs less than the part
   row_facts : (most : ℕ) (rows : List (List P)) (row : List P) → rows_pass g plan most rows ≡ true → IsAmong row rows →
       ((is_empty row || not (all_nullable g row)) ≡ true) × (weight g plan row < most)
   row_facts most [] row h a = absurd a
@@ -103,6 +108,7 @@ module _ {P T : Type 0} (g : Grammar P T) (plan : Plan P T) where
       let (light, later) = and_parts _ _ more in
       row_facts most rows row later a
 
+  -- an alternative of rows that pass at a token is followed as the plan says, and chosen where it is asked for
   choice_facts : (p : P) (t : T) (number : Option ℕ) (rows : List (List P)) (row : List P) →
       choice_passes g plan p t number rows ≡ true → IsAmong row rows →
       (follow_passes g plan p t row ≡ true) × (asks g plan p t row ≡ true → numbered number rows ≡ Some row)
@@ -123,25 +129,31 @@ module _ {P T : Type 0} (g : Grammar P T) (plan : Plan P T) where
   Safe (p ∷ row) = ((t : T) → row_begins g plan row t ≡ true → plan.follow p t ≡ true) × Safe row
 
 module _ {P T : Type 0} (g : Grammar P T) (plan : Plan P T) (law : IsPredictive g plan) where
+  -- a part that takes a token has no alternatives
   pub takes_alone : (p : P) (t : T) (row : List P) → g.takes p t ≡ true → IsAmong row (g.alternatives p) → ⊥
   takes_alone p t row h a =
       none_among (g.alternatives p) row (implied _ _ (and_parts _ _ (law.at_token p t)).0 h) a
 
+  -- the alternatives of a part pass at each token
   pub choices_pass : (p : P) (t : T) → choice_passes g plan p t (plan.chosen p t) (g.alternatives p) ≡ true
   choices_pass p t = (and_parts _ _ (law.at_token p t)).1
 
+  -- an alternative that a token asks for is the predicted one
   pub asked_row : (p : P) (t : T) (row : List P) → IsAmong row (g.alternatives p) → asks g plan p t row ≡ true →
       predicted g plan p t ≡ Some row
   asked_row p t row a =
       (choice_facts g plan p t (plan.chosen p t) (g.alternatives p) row (choices_pass p t) a).1
 
+  -- what stands behind a member of an alternative may follow it
   follow_row : (p : P) (t : T) (row : List P) → IsAmong row (g.alternatives p) → follow_passes g plan p t row ≡ true
   follow_row p t row a =
       (choice_facts g plan p t (plan.chosen p t) (g.alternatives p) row (choices_pass p t) a).0
 
+  -- an alternative with members stands for some token
   pub no_nullable : (p q : P) (row : List P) → IsAmong (q ∷ row) (g.alternatives p) → all_nullable g (q ∷ row) ≡ false
   no_nullable p q row a = not-true _ (row_facts g plan (plan.cost p) (g.alternatives p) (q ∷ row) (law.at_part p) a).0
 
+  -- an alternative weighs less than its part
   pub row_cost : (p : P) (row : List P) → IsAmong row (g.alternatives p) → weight g plan row < plan.cost p
   row_cost p row a = (row_facts g plan (plan.cost p) (g.alternatives p) row (law.at_part p) a).1
 
@@ -160,6 +172,7 @@ module _ {P T : Type 0} (g : Grammar P T) (plan : Plan P T) (law : IsPredictive 
   begins_taken (token h rest) = or_left _ _ (or_left _ _ h)
   begins_taken {row = p ∷ row} {t = t} (part alternative a rest) = replaced p row t alternative a (begins_taken rest)
 
+  -- a token that begins an alternative with what stands behind its part asks for the alternative
   asks_from : (p : P) (row : List P) (t : T) (alternative : List P) → Safe g plan (p ∷ row) → IsAmong alternative (g.alternatives p) →
       row_begins g plan (alternative ++ row) t ≡ true → asks g plan p t alternative ≡ true
   asks_from p row t [] safe a h = safe.0 t h
@@ -180,6 +193,7 @@ module _ {P T : Type 0} (g : Grammar P T) (plan : Plan P T) (law : IsPredictive 
       predicted g plan p t ≡ Some alternative
   predicted_taken {t = t} p row alternative safe a taken = asked_row p t alternative a (asks_taken p row alternative safe a taken)
 
+  -- an alternative in front of what is below its part is safe
   safe_rest : (p : P) (row below : List P) → ((t : T) → follow_passes g plan p t row ≡ true) → Safe g plan (p ∷ below) →
       Safe g plan (row ++ below)
   safe_rest p [] below closed safe = safe.1
@@ -194,6 +208,7 @@ module _ {P T : Type 0} (g : Grammar P T) (plan : Plan P T) (law : IsPredictive 
     safe_rest p row below (λ t. (and_parts _ (follow_passes g plan p t row) (closed t)).1) safe,
   )
 
+  -- a safe row is safe where an alternative stands for its first part
   pub safe_replaced : (p : P) (row alternative : List P) → IsAmong alternative (g.alternatives p) → Safe g plan (p ∷ row) →
       Safe g plan (alternative ++ row)
   safe_replaced p row alternative a safe = safe_rest p alternative row (λ t. follow_row p t alternative a) safe
@@ -218,6 +233,7 @@ module _ {P T : Type 0} (g : Grammar P T) (plan : Plan P T) (law : IsPredictive 
       from_parts p row [] a both = and_from _ _ (among_empty (g.alternatives p) a) both.1
       from_parts p row (q ∷ rest) a both = absurd (both_ways _ (no_nullable p q rest a) both.0)
 
+  -- a row whose members may all stand for no tokens takes none, up to its end
   pub nullable_taken : (row : List P) → all_nullable g row ≡ true → Taken g true row [] []
   nullable_taken [] h = stop tt
   nullable_taken (p ∷ row) h =

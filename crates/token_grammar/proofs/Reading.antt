@@ -1,5 +1,5 @@
 -- How far the machine has come: the tokens before one are taken and seen, and a row is left on the stack.
-use Rattle.std.proofs.Common.{◌≡◌, refl, sym, ◌∙◌, ap, subst, ℕ, ◌≤◌, Bool, true, false, ◌&&◌, List, [], ◌∷◌, ◌++◌, take, length, reverse}
+use Rattle.std.proofs.Common.{◌≡◌, refl, sym, ◌∙◌, ap, ℕ, ◌≤◌, Bool, true, false, ◌&&◌, List, [], ◌∷◌, ◌++◌, take, length, reverse}
 use Rattle.std.specs.Prelude.{Option, Some, None, slice_get}
 use Rattle.std.specs.List.{list_all}
 use Rattle.std.proofs.lemmas.List.{reverse-append}
@@ -11,16 +11,8 @@ use Rattle.token_grammar.specs.Step.{Moves}
 use Rattle.token_grammar.specs.Answers.{last_of, IsClean, IsAccepted, IsUnexpected, IsStopped, IsEarlyEnd}
 use Rattle.token_grammar.proofs.Leaves.{Leaves, leaves_start, leaves_at, leaves_expanded, leaves_taken, leaves_refused, leaves_begun, leaves_ended, leaves_no_end}
 use Rattle.token_grammar.proofs.Spelling.{taken_spelled, spelled_taken, taken_begun, begun_taken}
+use Rattle.token_grammar.proofs.Seeing.{sees_both}
 use Rattle.text_core.proofs.Laws.{take_next, take_all}
-
--- one more token is seen
-pub sees_more : {P T S F : Type 0} (watcher : Watcher P T S F) (ps : List P) (ts : List T) (before now after : S) (p : P) (t : T) →
-    Sees watcher before ps ts now → watcher.sees now p t after → Sees watcher before (ps ++ (p ∷ [])) (ts ++ (t ∷ [])) after
-sees_more watcher [] [] before now after p t seen h = (after, subst (λ s. watcher.sees s p t after) seen h, refl)
-sees_more watcher [] (u ∷ ts) before now after p t seen h = absurd seen
-sees_more watcher (q ∷ ps) [] before now after p t seen h = absurd seen
-sees_more watcher (q ∷ ps) (u ∷ ts) before now after p t (between, first, rest) h =
-    (between, first, sees_more watcher ps ts between now after p t rest h)
 
 -- the last member of a list with one more
 pub last_of-append : {A : Type 0} (xs : List A) (a : A) → last_of (xs ++ (a ∷ [])) ≡ Some a
@@ -73,7 +65,7 @@ module _ {P T S F : Type 0} (g : Grammar P T) (plan : Plan P T) (watcher : Watch
       record {
         takers = r.takers ++ (p ∷ []);
         leaves = leaves_taken g plan law start us t r.takers p after takes at_p;
-        seen = sees_more watcher r.takers us before now later p t r.seen h;
+        seen = sees_both watcher r.takers (p ∷ []) us (t ∷ []) before now later r.seen (later, h, refl);
         ending = sym (last_of-append r.takers p);
       }
 

@@ -6,6 +6,25 @@ use Rattle.text_core.specs.Lists.{IsAmong}
 use Rattle.token_grammar.specs.Taken.{Taken}
 use Rattle.token_grammar.specs.Taken.Taken.{stop, token, part}
 
+-- tokens in two parts, of which the first has one property and the second another
+pub record InTwo {T : Type 0} (First Second : List T → Type 0) (ts : List T) : Type 0 where
+  pub front : List T
+  pub back : List T
+  pub split : ts ≡ front ++ back
+  pub first : First front
+  pub second : Second back
+
+-- what has a token, or tokens, in front of it is in two parts with these in the first
+longer_front : {T : Type 0} (First Second Longer : List T → Type 0) (us ts : List T) → (in_two : InTwo First Second ts) →
+    Longer (us ++ in_two.front) → InTwo Longer Second (us ++ ts)
+longer_front First Second Longer us ts in_two longer = record {
+  front = us ++ in_two.front;
+  back = in_two.back;
+  split = ap (λ x. us ++ x) in_two.split ∙ sym (append_assoc us in_two.front in_two.back);
+  first = longer;
+  second = in_two.second;
+}
+
 module _ {P T : Type 0} (g : Grammar P T) where
   -- what a row spells, and what a further row takes after it
   pub joined : {whole : Bool} {first second : List P} {us vs : List T} {ps qs : List P} → Taken g true first us ps →
@@ -21,6 +40,7 @@ module _ {P T : Type 0} (g : Grammar P T) where
   longer back (token h rest) = token h (longer back rest)
   longer back (part alternative a rest) = part alternative a (rw append_assoc at (longer back rest))
 
+  -- what a row spells it takes up to its end
   pub taken_spelled : {row : List P} {ts : List T} → Spelled g row ts → (ps : List P) × Taken g true row ts ps
   taken_spelled Spelled.none = ([], stop tt)
   taken_spelled (Spelled.token {p = p} h rest) = let (ps, later) = taken_spelled rest in (p ∷ ps, token h later)
@@ -29,35 +49,35 @@ module _ {P T : Type 0} (g : Grammar P T) where
       let (qs, back) = taken_spelled rest in
       (ps ++ qs, subst (λ x. Taken g true (p ∷ row) x (ps ++ qs)) (sym e) (part alternative a (joined front back)))
 
-  split_spelled : (front back : List P) {ts : List T} → Spelled g (front ++ back) ts →
-      (us : List T) × (vs : List T) × (ts ≡ us ++ vs) × Spelled g front us × Spelled g back vs
-  split_spelled [] back {ts = ts} s = ([], ts, refl, Spelled.none, s)
-  split_spelled (p ∷ front) back (Spelled.token {t = t} h rest) =
-      let (us, vs, e, first, second) = split_spelled front back rest in
-      (t ∷ us, vs, ap (λ x. t ∷ x) e, Spelled.token h first, second)
-  split_spelled (p ∷ front) back (Spelled.part alternative ss ts a inner rest e) =
-      let (us, vs, f, first, second) = split_spelled front back rest in (
-        ss ++ us,
-        vs,
-        (e ∙ ap (λ x. ss ++ x) f) ∙ sym (append_assoc ss us vs),
-        Spelled.part alternative ss us a inner first refl,
-        second,
-      )
+  -- what two joined rows spell is spelled by one after the other
+  spelled_split : (front back : List P) {ts : List T} → Spelled g (front ++ back) ts → InTwo (Spelled g front) (Spelled g back) ts
+  spelled_split [] back {ts = ts} s = record { front = []; back = ts; split = refl; first = Spelled.none; second = s }
+  spelled_split (p ∷ front) back (Spelled.token {t = t} {ts = ts} h rest) =
+      let later = spelled_split front back rest in
+      longer_front (Spelled g front) (Spelled g back) (Spelled g (p ∷ front)) (t ∷ []) ts later (Spelled.token h later.first)
+  spelled_split (p ∷ front) back (Spelled.part alternative ss ts a inner rest e) =
+      let later = spelled_split front back rest in
+      subst (InTwo (Spelled g (p ∷ front)) (Spelled g back)) (sym e)
+      (longer_front (Spelled g front) (Spelled g back) (Spelled g (p ∷ front)) ss ts later
+      (Spelled.part alternative ss later.front a inner later.first refl))
 
+  -- what a row takes up to its end it spells
   pub spelled_taken : {row : List P} {ts : List T} {ps : List P} → Taken g true row ts ps → Spelled g row ts
   spelled_taken {row = []} (stop h) = Spelled.none
   spelled_taken {row = p ∷ row} (stop h) = absurd h
   spelled_taken (token h rest) = Spelled.token h (spelled_taken rest)
   spelled_taken {row = p ∷ row} (part alternative a rest) =
-      let (us, vs, e, first, second) = split_spelled alternative row (spelled_taken rest) in
-      Spelled.part alternative us vs a first second e
+      let it = spelled_split alternative row (spelled_taken rest) in
+      Spelled.part alternative it.front it.back a it.first it.second it.split
 
+  -- what a row takes up to its end begins a longer row
   front_taken : (front back : List P) (ts : List T) (ps : List P) → Taken g true front ts ps → Taken g false (front ++ back) ts ps
   front_taken front back ts ps taken =
       let all : Taken g false (front ++ back) (ts ++ []) (ps ++ []) = joined taken (stop tt) in
       rw (append-nil ts, append-nil ps) at all
 
   mutual
+    -- what begins a row is taken by it
     pub taken_begun : {row : List P} {ts : List T} → Begun g row ts → (ps : List P) × Taken g false row ts ps
     taken_begun {row = row} {ts = ts} (Begun.whole front back e s) =
         let (ps, taken) = taken_spelled s in
@@ -67,6 +87,7 @@ module _ {P T : Type 0} (g : Grammar P T) where
         let (qs, back_taken) = taken_part b back in
         (ps ++ qs, rw (e, f) (joined front_taken back_taken))
 
+    -- what begins a part is taken by a row behind it
     taken_part : {p : P} {ts : List T} → BegunPart g p ts → (back : List P) → (ps : List P) × Taken g false (p ∷ back) ts ps
     taken_part (BegunPart.token {p = p} h) back = (p ∷ [], token h (stop tt))
     taken_part (BegunPart.inside alternative a b) back =
@@ -83,51 +104,49 @@ data Starts {P T : Type 0} (g : Grammar P T) : List P → List T → Type 0 wher
       Starts g alternative ts → Starts g (p ∷ row) ts
 
 module _ {P T : Type 0} (g : Grammar P T) where
-  split_starts : (front back : List P) {ts : List T} → Starts g (front ++ back) ts →
-      Starts g front ts ⊎ ((us : List T) × (vs : List T) × (ts ≡ us ++ vs) × Spelled g front us × Starts g back vs)
-  split_starts [] back {ts = ts} s = inr ([], ts, refl, Spelled.none, s)
-  split_starts (p ∷ front) back starts_nothing = inl starts_nothing
-  split_starts (p ∷ front) back (starts_token {t = t} h rest) = elim (split_starts front back rest) [
+  -- what begins two joined rows begins the first, or is spelled by it and begins the second
+  starts_split : (front back : List P) {ts : List T} → Starts g (front ++ back) ts →
+      Starts g front ts ⊎ InTwo (Spelled g front) (Starts g back) ts
+  starts_split [] back {ts = ts} s = inr (record { front = []; back = ts; split = refl; first = Spelled.none; second = s })
+  starts_split (p ∷ front) back starts_nothing = inl starts_nothing
+  starts_split (p ∷ front) back (starts_token {t = t} {ts = ts} h rest) = elim (starts_split front back rest) [
     | inl s ↦ inl (starts_token h s)
-    | inr found ↦ let (us, vs, e, first, second) = found in
-        inr (t ∷ us, vs, ap (λ x. t ∷ x) e, Spelled.token h first, second)
+    | inr later ↦ inr (longer_front (Spelled g front) (Starts g back) (Spelled g (p ∷ front)) (t ∷ []) ts later (Spelled.token h later.first))
   ]
-  split_starts (p ∷ front) back (starts_part alternative ss ts a inner rest e) = elim (split_starts front back rest) [
+  starts_split (p ∷ front) back (starts_part alternative ss ts a inner rest e) = elim (starts_split front back rest) [
     | inl s ↦ inl (starts_part alternative ss ts a inner s e)
-    | inr found ↦ let (us, vs, f, first, second) = found in
-        inr (
-          ss ++ us,
-          vs,
-          (e ∙ ap (λ x. ss ++ x) f) ∙ sym (append_assoc ss us vs),
-          Spelled.part alternative ss us a inner first refl,
-          second,
-        )
+    | inr later ↦ inr (subst (InTwo (Spelled g (p ∷ front)) (Starts g back)) (sym e)
+        (longer_front (Spelled g front) (Starts g back) (Spelled g (p ∷ front)) ss ts later
+        (Spelled.part alternative ss later.front a inner later.first refl)))
   ]
-  split_starts (p ∷ front) back (starts_inside alternative a s) = inl (starts_inside alternative a s)
+  starts_split (p ∷ front) back (starts_inside alternative a s) = inl (starts_inside alternative a s)
 
+  -- what a row takes begins it, by its first member
   starts_taken : {row : List P} {ts : List T} {ps : List P} → Taken g false row ts ps → Starts g row ts
   starts_taken (stop h) = starts_nothing
   starts_taken (token h rest) = starts_token h (starts_taken rest)
-  starts_taken {row = p ∷ row} (part alternative a rest) = elim (split_starts alternative row (starts_taken rest)) [
+  starts_taken {row = p ∷ row} (part alternative a rest) = elim (starts_split alternative row (starts_taken rest)) [
     | inl s ↦ starts_inside alternative a s
-    | inr found ↦ let (us, vs, e, first, second) = found in starts_part alternative us vs a first second e
+    | inr it ↦ starts_part alternative it.front it.back a it.first it.second it.split
   ]
 
-  pub join_spelled : {front back : List P} {us vs : List T} → Spelled g front us → Spelled g back vs → Spelled g (front ++ back) (us ++ vs)
-  join_spelled Spelled.none later = later
-  join_spelled (Spelled.token h rest) later = Spelled.token h (join_spelled rest later)
-  join_spelled {vs = vs} (Spelled.part alternative us ts a first rest e) later =
-      Spelled.part alternative us (ts ++ vs) a first (join_spelled rest later)
+  -- what one row spells and then another is spelled by both joined
+  pub spelled_joined : {front back : List P} {us vs : List T} → Spelled g front us → Spelled g back vs → Spelled g (front ++ back) (us ++ vs)
+  spelled_joined Spelled.none later = later
+  spelled_joined (Spelled.token h rest) later = Spelled.token h (spelled_joined rest later)
+  spelled_joined {vs = vs} (Spelled.part alternative us ts a first rest e) later =
+      Spelled.part alternative us (ts ++ vs) a first (spelled_joined rest later)
       (ap (λ x. x ++ vs) e ∙ append_assoc us ts vs)
 
   -- what begins a row after a member that is spelled whole
   begun_after : (p : P) {row : List P} (us : List T) {ts : List T} → Spelled g (p ∷ []) us → Begun g row ts → Begun g (p ∷ row) (us ++ ts)
   begun_after p us first (Begun.whole front back e s) =
-      Begun.whole (p ∷ front) back (ap (λ x. p ∷ x) e) (join_spelled first s)
+      Begun.whole (p ∷ front) back (ap (λ x. p ∷ x) e) (spelled_joined first s)
   begun_after p us first (Begun.next front member back vs ws e f s b) =
       Begun.next (p ∷ front) member back (us ++ vs) ws (ap (λ x. p ∷ x) e)
-      (ap (λ x. us ++ x) f ∙ sym (append_assoc us vs ws)) (join_spelled first s) b
+      (ap (λ x. us ++ x) f ∙ sym (append_assoc us vs ws)) (spelled_joined first s) b
 
+  -- what begins a row by its first member begins the row
   begun_starts : {row : List P} {ts : List T} → Starts g row ts → Begun g row ts
   begun_starts {row = row} starts_nothing = Begun.whole [] row refl Spelled.none
   begun_starts (starts_token {p = p} {t = t} h rest) = begun_after p (t ∷ []) (Spelled.token h Spelled.none) (begun_starts rest)
@@ -137,5 +156,6 @@ module _ {P T : Type 0} (g : Grammar P T) where
   begun_starts (starts_inside {p = p} {row = row} {ts = ts} alternative a s) =
       Begun.next [] p row [] ts refl refl Spelled.none (BegunPart.inside alternative a (begun_starts s))
 
+  -- what a row takes begins it
   pub begun_taken : {row : List P} {ts : List T} {ps : List P} → Taken g false row ts ps → Begun g row ts
   begun_taken taken = begun_starts (starts_taken taken)

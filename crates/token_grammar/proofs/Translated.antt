@@ -37,29 +37,37 @@ after_split all first [] a = absurd a
 after_split all first (row ∷ rows) (inl e) = (row, inl refl, sym e)
 after_split all first (row ∷ rows) (inr a) = let (found, b, e) = after_split all first rows a in (found, inr b, e)
 
+-- a row that is a member of some rows and a member of others, one behind the other
+record Parted {Q : Type 0} (all : List Q) (firsts rows : List (List Q)) : Type 0 where
+  first : List Q
+  second : List Q
+  is_first : IsAmong first firsts
+  is_second : IsAmong second rows
+  split : all ≡ first ++ second
+
 -- a row of joined rows is a member of the one list and a member of the other
-joined_split : {Q : Type 0} (all : List Q) (firsts rows : List (List Q)) → IsAmong all (joined_rows firsts rows) →
-    (first : List Q) × (row : List Q) × IsAmong first firsts × IsAmong row rows × (all ≡ first ++ row)
+joined_split : {Q : Type 0} (all : List Q) (firsts rows : List (List Q)) → IsAmong all (joined_rows firsts rows) → Parted all firsts rows
 joined_split all [] rows a = absurd a
 joined_split all (first ∷ firsts) rows a = elim (among_append all (after_row first rows) (joined_rows firsts rows) a) [
-  | inl h ↦ let (row, b, e) = after_split all first rows h in (first, row, inl refl, b, e)
-  | inr h ↦ let (found, row, b, d, e) = joined_split all firsts rows h in (found, row, inr b, d, e)
+  | inl h ↦ let (row, b, e) = after_split all first rows h in
+      record { first = first; second = row; is_first = inl refl; is_second = b; split = e }
+  | inr h ↦ let found = joined_split all firsts rows h in
+      record { first = found.first; second = found.second; is_first = inr found.is_first; is_second = found.is_second; split = found.split }
 ]
 
 -- a row that two rows stand for is one of the first and one of the second
 stood_split : {P Q : Type 0} (stands : P → List (List Q)) (row below : List P) (all : List Q) →
-    IsAmong all (stood_rows stands (row ++ below)) →
-    (first : List Q) × (second : List Q) × IsAmong first (stood_rows stands row) × IsAmong second (stood_rows stands below) × (all ≡ first ++ second)
-stood_split stands [] below all a = ([], all, inl refl, a, refl)
+    IsAmong all (stood_rows stands (row ++ below)) → Parted all (stood_rows stands row) (stood_rows stands below)
+stood_split stands [] below all a = record { first = []; second = all; is_first = inl refl; is_second = a; split = refl }
 stood_split stands (p ∷ row) below all a =
-    let (head, tail, b, d, e) = joined_split all (stands p) (stood_rows stands (row ++ below)) a in
-    let (first, second, k, l, f) = stood_split stands row below tail d in (
-      head ++ first,
-      second,
-      joined_among head first (stands p) (stood_rows stands row) b k,
-      l,
-      (e ∙ ap (λ r. head ++ r) f) ∙ sym (append_assoc head first second),
-    )
+    let here = joined_split all (stands p) (stood_rows stands (row ++ below)) a in
+    let rest = stood_split stands row below here.second here.is_second in record {
+      first = here.first ++ rest.first;
+      second = rest.second;
+      is_first = joined_among here.first rest.first (stands p) (stood_rows stands row) here.is_first rest.is_first;
+      is_second = rest.is_second;
+      split = (here.split ∙ ap (λ r. here.first ++ r) rest.split) ∙ sym (append_assoc here.first rest.first rest.second);
+    }
 
 -- some member of rows that are not empty
 one_row : {A : Type 0} (rows : List A) → IsFalse (is_empty rows) → (row : A) × IsAmong row rows
@@ -138,35 +146,34 @@ module _ {P Q T : Type 0} (g : Grammar P T) (h : Grammar Q T) (stands : P → Li
 
   -- one of the rows that a row stands for takes what the row takes
   translated : {whole : Bool} {row : List P} {ts : List T} {takers : List P} → Taken g whole row ts takers →
-      (other : List Q) × (others : List Q) × IsAmong other (stood_rows stands row) × Taken h whole other ts others
-  translated {whole = true} {row = []} (stop leave) = ([], [], inl refl, stop tt)
+      (other : List Q) × IsAmong other (stood_rows stands row) × ((others : List Q) × Taken h whole other ts others)
+  translated {whole = true} {row = []} (stop leave) = ([], inl refl, ([], stop tt))
   translated {whole = true} {row = p ∷ row} (stop leave) = absurd leave
-  translated {whole = false} {row = row} (stop leave) = let (other, a) = some_row row in (other, [], a, stop tt)
+  translated {whole = false} {row = row} (stop leave) = let (other, a) = some_row row in (other, a, ([], stop tt))
   translated (token {p = p} {row = row} {t = t} takes rest) =
       let (first, a, spelled) = tr.takes p t takes in
       let (ps, front) = taken_spelled h spelled in
-      let (second, qs, b, back) = translated rest in
-      (first ++ second, ps ++ qs, joined_among first second (stands p) (stood_rows stands row) a b, joined h front back)
+      let (second, b, (qs, back)) = translated rest in
+      (first ++ second, joined_among first second (stands p) (stood_rows stands row) a b, (ps ++ qs, joined h front back))
   translated {whole = whole} {ts = ts} (part {p = p} {row = row} alternative a rest) =
-      let (all, qs, b, taken) = translated rest in
-      let (first, second, k, l, e) = stood_split stands alternative row all b in
-      let made = each_made h (stands p) (stood_rows stands alternative) first
-      (alternative_made h stands (stands p) (g.alternatives p) alternative (tr.alternatives p) a) k in
-      let (found, m, becomes) = one_becomes h (stands p) first made in (
-        found ++ second,
-        qs,
-        joined_among found second (stands p) (stood_rows stands row) m l,
-        becomes_taken h whole second becomes ts qs (subst (λ r. Taken h whole r ts qs) e taken),
+      let (all, b, (qs, taken)) = translated rest in
+      let parted = stood_split stands alternative row all b in
+      let made = each_made h (stands p) (stood_rows stands alternative) parted.first
+      (alternative_made h stands (stands p) (g.alternatives p) alternative (tr.alternatives p) a) parted.is_first in
+      let (found, m, becomes) = one_becomes h (stands p) parted.first made in (
+        found ++ parted.second,
+        joined_among found parted.second (stands p) (stood_rows stands row) m parted.is_second,
+        (qs, becomes_taken h whole parted.second becomes ts qs (subst (λ r. Taken h whole r ts qs) parted.split taken)),
       )
 
   -- a part that stands for one part alone
   only_start : (start : P) (other : Q) (row : List Q) → stands start ≡ (other ∷ []) ∷ [] →
       IsAmong row (stood_rows stands (start ∷ [])) → row ≡ other ∷ []
   only_start start other row e a =
-      let (first, second, b, d, f) = joined_split row (stands start) ([] ∷ []) a in
-      let one = only (other ∷ []) first (subst (IsAmong first) e b) in
-      let none = only [] second d in
-      f ∙ (ap (λ r. r ++ second) one ∙ ap (λ r. other ∷ r) none)
+      let parted = joined_split row (stands start) ([] ∷ []) a in
+      let one = only (other ∷ []) parted.first (subst (IsAmong parted.first) e parted.is_first) in
+      let none = only [] parted.second parted.is_second in
+      parted.split ∙ (ap (λ r. r ++ parted.second) one ∙ ap (λ r. other ∷ r) none)
     where
       only : {A : Type 0} (x y : A) → IsAmong y (x ∷ []) → y ≡ x
       only x y (inl e) = sym e
@@ -176,7 +183,7 @@ module _ {P Q T : Type 0} (g : Grammar P T) (h : Grammar Q T) (stands : P → Li
   taken_start : (start : P) (other : Q) (whole : Bool) (ts : List T) (takers : List P) → stands start ≡ (other ∷ []) ∷ [] →
       Taken g whole (start ∷ []) ts takers → (others : List Q) × Taken h whole (other ∷ []) ts others
   taken_start start other whole ts takers e taken =
-      let (row, others, a, also) = translated taken in
+      let (row, a, (others, also)) = translated taken in
       (others, subst (λ r. Taken h whole r ts others) (only_start start other row e a) also)
 
   -- a text of the grammar is a text of the other

@@ -19,8 +19,7 @@ use Rattle.tptp_grammar.specs.Plan.{items_plan}
 use Rattle.tptp_grammar.specs.PartsLaw.{items_law}
 use Rattle.tptp_grammar.specs.Limits.{Bindings, items_watcher}
 use Rattle.tptp_grammar.specs.Marks.{marks_of}
-use Rattle.tptp_grammar.specs.Spells.{SpellsItems}
-use Rattle.tptp_grammar.specs.Spells.{AreItemsOf, ItemIsClosed}
+use Rattle.tptp_grammar.specs.Spells.{SpellsItems, AreItemsOf, ItemIsClosed}
 use Rattle.tptp_grammar.specs.Texts.{SyntaxFault}
 use Rattle.tptp_grammar.specs.Told.{IsAcceptedText}
 use Rattle.tptp_grammar.specs.Reading.{items_from, IsReadable}

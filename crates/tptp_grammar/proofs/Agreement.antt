@@ -1,31 +1,13 @@
 -- A scope and the bindings of the watcher, where they bind the same of a text's words.
-use Rattle.std.specs.Prelude.{◌≡◌, ◌+◌, ◌||◌, ◌⊎◌, ◌==◌, Decides, ℕ, Bool, true, false, not, cond, List, [], ◌∷◌, bytes_eq}
-use Rattle.std.proofs.Common.{refl, sym, ◌∙◌, ap, inl, inr, arith}
-use Rattle.std.proofs.lemmas.Slice.Eq.{bytes_eq-Decides}
+use Rattle.std.specs.Prelude.{◌≡◌, ◌||◌, ◌⊎◌, ◌==◌, Decides, ℕ, Bool, true, false, List, [], ◌∷◌}
+use Rattle.std.proofs.Common.{refl, sym, ap, inl, inr, arith}
 use Rattle.text_core.proofs.Laws.{number_same}
 use Rattle.text_core.specs.Lists.{IsAmong}
 use Rattle.text_core.specs.Names.{Text}
 use Rattle.tptp_lexer.specs.Tokens.{Token}
 use Rattle.tptp_grammar.specs.Limits.{Bindings, is_bound}
-use Rattle.tptp_grammar.specs.Marks.{number_of}
-
-module _ (t u : Token) (ts : List Token) (x : Text) where
-  -- what the tests of the first token say
-  told : (a b : Bool) → bytes_eq u.text t.text ≡ a → bytes_eq u.text x ≡ b →
-      (IsAmong t ts → number_of ts t.text ≡ number_of ts x → t.text ≡ x) → IsAmong t (u ∷ ts) →
-      cond (not a) (1 + number_of ts t.text) 0 ≡ cond (not b) (1 + number_of ts x) 0 → t.text ≡ x
-  told true true d e later among same = sym ((bytes_eq-Decides u.text t.text).0 d) ∙ (bytes_eq-Decides u.text x).0 e
-  told true false d e later among same = absurd (omega arith)
-  told false true d e later among same = absurd (omega arith)
-  told false false d e later (inl here) same =
-      let true_too = (bytes_eq-Decides u.text t.text).1 (ap (λ (v : Token). v.text) here) in absurd (cc)
-  told false false d e later (inr among) same = later among (omega arith)
-
--- the number of a word among tokens tells the word, where a token is this word
-same_word : (ts : List Token) (t : Token) (x : Text) → IsAmong t ts → number_of ts t.text ≡ number_of ts x → t.text ≡ x
-same_word [] t x among same = absurd among
-same_word (u ∷ ts) t x among same =
-    told t u ts x (bytes_eq u.text t.text) (bytes_eq u.text x) refl refl (same_word ts t x) among same
+use Rattle.tptp_lexer.specs.Numbering.{number_of}
+use Rattle.tptp_lexer.proofs.Laws.{number_of_same}
 
 -- a token's text is in scope exactly where its number is bound
 abbrev pub Agrees : List Token → Bindings → List Text → Type 0
@@ -40,7 +22,7 @@ module _ (all : List Token) (bindings : Bindings) (scope : List Text) (x : Text)
   -- a bound number is that of the new variable, or of one in scope
   found : (same : Bool) → number_of all x == number_of all t.text ≡ same → same || is_bound (number_of all t.text) bindings ≡ true →
       (x ≡ t.text) ⊎ IsAmong t.text scope
-  found true e h = inl (sym (same_word all t x among (sym (number_same (number_of all x) (number_of all t.text) e))))
+  found true e h = inl (sym (number_of_same all t x among (sym (number_same (number_of all x) (number_of all t.text) e))))
   found false e h = inr (agrees.0 h)
 
   -- a variable in the larger scope has a bound number

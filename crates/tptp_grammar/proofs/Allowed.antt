@@ -4,9 +4,8 @@ use Rattle.std.proofs.Common.{refl, ap, arith}
 use Rattle.std.specs.List.{AllByRecursion}
 use Rattle.text_core.specs.Names.{Text}
 use Rattle.text_core.specs.declared.limits.TheConstants.{MOST_LEVELS}
-use Rattle.logic_core.specs.Allowed.{depth, greatest_depth, nesting}
+use Rattle.logic_core.specs.Allowed.{depth, greatest_depth, nesting, ItemIsAllowed}
 use Rattle.logic_core.proofs.Laws.{row_of, Not_opens, And_opens, Or_opens, Binary_opens, Exists_opens, depth-ForAll}
-use Rattle.logic_core.specs.Allowed.{ItemIsAllowed}
 use Rattle.logic_core.specs.declared.formula.Term.{Term}
 use Rattle.logic_core.specs.declared.formula.Op.{Op}
 use Rattle.logic_core.specs.declared.formula.Formula.{Formula, True, Equal, Not, Binary, Not', And', Or', Binary', end_of-Formula, more_of-Formula}

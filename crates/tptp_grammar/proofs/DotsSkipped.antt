@@ -4,9 +4,10 @@ use Rattle.std.proofs.Common.{◌∙◌, ◌⊎◌, inl, inr, append_assoc}
 use Rattle.tptp_lexer.specs.declared.kind.Kind.{Kind}
 use Rattle.tptp_lexer.specs.declared.kind.Kind.TheVariants as kind
 use Rattle.tptp_lexer.specs.Tokens.{Token}
-use Rattle.tptp_grammar.specs.Parts.{same_kind}
+use Rattle.tptp_lexer.specs.Same.{same_kind}
 use Rattle.tptp_grammar.specs.Reading.{behind_dot}
-use Rattle.tptp_grammar.specs.Spells.{IsWord, IsGeneral, IsGeneralList, AreGenerals, IsData, IsAnnotation}
+use Rattle.tptp_grammar.specs.Spells.{IsGeneral, IsGeneralList, AreGenerals, IsData, IsAnnotation}
+use Rattle.tptp_lexer.specs.Spelling.{IsWord}
 use Rattle.tptp_grammar.specs.Spells.IsGeneral.{data_alone, data_with, in_list}
 use Rattle.tptp_grammar.specs.Spells.IsGeneralList.{empty_list, whole_list}
 use Rattle.tptp_grammar.specs.Spells.AreGenerals.{no_general, next_general}

@@ -1,26 +1,15 @@
 -- Which tokens end what is read.
-use Rattle.std.specs.Prelude.{◌≡◌, Bool, true, false, List, [], ◌∷◌, Some, None, if◌then◌else◌, refl}
+use Rattle.std.specs.Prelude.{◌≡◌, Bool, true, false, List, [], ◌∷◌, Some, None, refl}
 use Rattle.std.proofs.Common.{ap, ◌∙◌}
 use Rattle.text_core.specs.Names.{Text}
 use Rattle.logic_core.specs.declared.formula.Formula.{Formula, Pred}
 use Rattle.tptp_lexer.specs.declared.kind.Kind.{Kind}
 use Rattle.tptp_lexer.specs.declared.kind.Kind.TheVariants as kind
 use Rattle.tptp_lexer.specs.Tokens.{Token}
-use Rattle.tptp_grammar.specs.Parts.{same_kind}
-use Rattle.tptp_grammar.specs.Reading.{Read, behind, atom_at, atom_from, rest_at, rest_from}
-
--- a kind is the same as itself
-same_kind-self : (k : Kind) → same_kind k k ≡ true
-same_kind-self kind.Lower = refl
-same_kind-self _ = refl
-
--- a token of the kind is found, and one of another kind is not
-pub behind-here : (k : Kind) (t : Token) (ts : List Token) → t.kind ≡ k → behind k (t ∷ ts) ≡ Some ts
-behind-here k t ts is = ap (λ other. if same_kind other k then Some ts else None) is ∙ ap (λ b. if b then Some ts else None) (same_kind-self k)
-
--- a token of another kind is not found
-pub behind-other : (k other : Kind) (t : Token) (ts : List Token) → t.kind ≡ other → same_kind other k ≡ false → behind k (t ∷ ts) ≡ None
-behind-other k other t ts is apart = ap (λ other. if same_kind other k then Some ts else None) is ∙ ap (λ b. if b then Some ts else None) apart
+use Rattle.tptp_lexer.proofs.Laws.{behind-other}
+use Rattle.tptp_lexer.specs.Same.{same_kind}
+use Rattle.tptp_grammar.specs.Reading.{atom_at, atom_from, rest_at, rest_from}
+use Rattle.tptp_lexer.specs.Reading.{Read, behind}
 
 -- a token of the kind does not go on with a unit formula
 abbrev pub ends_unit : Kind → Bool

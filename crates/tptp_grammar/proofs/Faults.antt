@@ -1,10 +1,10 @@
 -- A text has one refusal at most, and none where the machine accepts it.
-use Rattle.std.specs.Prelude.{ℕ, ◌≡◌, ◌≢◌, ◌⊎◌, Bool, true, false, slice_get, Some, Ok, Err, []}
+use Rattle.std.specs.Prelude.{ℕ, ◌≡◌, ◌≢◌, ◌⊎◌, Bool, true, false, slice_get, Some, []}
 use Rattle.std.proofs.Common.{inl, inr, refl, sym, ◌∙◌, ap, subst}
-use Rattle.token_grammar.specs.Answers.{IsAccepted, AreOne}
+use Rattle.token_grammar.specs.Answers.{IsAccepted}
 use Rattle.token_grammar.specs.declared.refusal.Refusal.{Refusal}
 use Rattle.token_grammar.specs.declared.refusal.Refusal.TheVariants as machine
-use Rattle.token_grammar.proofs.Laws.{answers_agree, computed_decided}
+use Rattle.token_grammar.proofs.Laws.{refusals_agree, accepted_not_refused, computed_decided}
 use Rattle.tptp_lexer.specs.Columns.{Lexed, starts_of}
 use Rattle.tptp_grammar.specs.declared.limit.Limit.{Limit}
 use Rattle.tptp_grammar.specs.declared.limit.Limit.TheVariants as limit
@@ -76,39 +76,16 @@ told_once lexed (machine.Stopped n why) a b (offset, at, e) (other, also, f) =
     cc
 told_once lexed machine.EndsEarly a b e f = e ∙ sym f
 
--- two refusals that are one, but for want of memory, are the same
-of_one : (a b : Refusal ItemPart Limit) → AreOne {P = ItemPart} {F = Limit} (Err a) (Err b) → a ≢ machine.Memory → b ≢ machine.Memory → a ≡ b
-of_one machine.Memory b one some also = absurd (some refl)
-of_one (machine.Unexpected n last) machine.Memory one some also = absurd (also refl)
-of_one (machine.Unexpected n last) (machine.Unexpected m end) one some also = cc
-of_one (machine.Unexpected n last) (machine.Stopped m why) one some also = cc
-of_one (machine.Unexpected n last) machine.EndsEarly one some also = cc
-of_one (machine.Stopped n why) machine.Memory one some also = absurd (also refl)
-of_one (machine.Stopped n why) (machine.Unexpected m end) one some also = cc
-of_one (machine.Stopped n why) (machine.Stopped m end) one some also = cc
-of_one (machine.Stopped n why) machine.EndsEarly one some also = cc
-of_one machine.EndsEarly machine.Memory one some also = absurd (also refl)
-of_one machine.EndsEarly (machine.Unexpected m end) one some also = cc
-of_one machine.EndsEarly (machine.Stopped m end) one some also = cc
-of_one machine.EndsEarly machine.EndsEarly one some also = refl
-
--- what is accepted is not refused, but for want of memory
-none_accepted : (a : Refusal ItemPart Limit) → a ≢ machine.Memory → AreOne {P = ItemPart} {F = Limit} (Ok tt) (Err a) → ⊥
-none_accepted machine.Memory some one = some refl
-none_accepted (machine.Unexpected n last) some one = cc
-none_accepted (machine.Stopped n why) some one = cc
-none_accepted machine.EndsEarly some one = cc
-
 -- two refusals of the machine, neither of them want of memory, are one
 one_answer : (lexed : Lexed) (a b : Refusal ItemPart Limit) → IsMachineRefusal lexed a → IsMachineRefusal lexed b →
     a ≢ machine.Memory → b ≢ machine.Memory → a ≡ b
 one_answer lexed a b (after, first) (later, second) some also =
-    of_one a b (answers_agree fof_items items_plan items_watcher items_law (computed_decided look) Items []
-    (marks_of lexed.tokens) after later (Err a) (Err b) first second) some also
+    refusals_agree fof_items items_plan items_watcher items_law (computed_decided look) Items [] (marks_of lexed.tokens) after later a b
+    first second some also
 
 -- two refusals of the same tokens are one
-pub one_fault : (lexed : Lexed) (a b : SyntaxRefusal) → SyntaxFault lexed a → SyntaxFault lexed b → a ≡ b
-one_fault lexed a b first second =
+pub fault_same : (lexed : Lexed) (a b : SyntaxRefusal) → SyntaxFault lexed a → SyntaxFault lexed b → a ≡ b
+fault_same lexed a b first second =
     let (x, refused, told, some) = fault_told lexed a first in
     let (y, also, tells, other) = fault_told lexed b second in
     let same = one_answer lexed x y refused also some other in
@@ -119,5 +96,5 @@ pub accepted_no_fault : (lexed : Lexed) (after : Bindings) (a : SyntaxRefusal) �
     IsAccepted fof_items items_watcher Items [] (marks_of lexed.tokens) after → SyntaxFault lexed a → ⊥
 accepted_no_fault lexed after a accepted fault =
     let (x, (later, refused), told, some) = fault_told lexed a fault in
-    none_accepted x some (answers_agree fof_items items_plan items_watcher items_law (computed_decided look) Items []
-    (marks_of lexed.tokens) after later (Ok tt) (Err x) accepted refused)
+    accepted_not_refused fof_items items_plan items_watcher items_law (computed_decided look) Items [] (marks_of lexed.tokens) after later
+    x accepted refused some

@@ -10,15 +10,16 @@ use Rattle.tptp_lexer.specs.declared.kind.Kind.{Kind}
 use Rattle.tptp_lexer.specs.declared.kind.Kind.TheVariants as kind
 use Rattle.tptp_lexer.specs.Tokens.{Token}
 use Rattle.text_core.specs.declared.limits.TheConstants.{MOST_LEVELS}
-use Rattle.tptp_grammar.specs.Reading.{Read, behind, reread, more_from, rest_at, rest_from, below_at, inside_at, unit_at, formula_at}
+use Rattle.tptp_grammar.specs.Reading.{rest_at, rest_from, below_at, inside_at, unit_at, formula_at}
+use Rattle.tptp_lexer.specs.Reading.{Read, behind, reread, more_from}
 use Rattle.tptp_grammar.specs.Spells.{op_kind, SpellsFormula, SpellsRest, SpellsUnitary, Chain, chain_kind, chain_of}
 use Rattle.tptp_grammar.specs.Spells.Chain.{conjunction, disjunction}
 use Rattle.tptp_grammar.specs.Spells.SpellsFormula.{alone, chain, binary}
 use Rattle.tptp_grammar.specs.Spells.SpellsRest.{end, further}
 use Rattle.tptp_grammar.specs.Spells.SpellsUnitary.{brackets, negation, quantified, truth, atom, equation, inequality}
-use Rattle.tptp_grammar.proofs.ReaderSteps.{below_is, inside_is, unit_is, more-none, more-next}
-use Rattle.tptp_grammar.proofs.Endings.{behind-here, ends_unit, ends_formula, Ends, ends_at, formula_ends_unit, formula-alone, ampersand-none, bar-none}
-use Rattle.tptp_grammar.proofs.ListsRead.{longer}
+use Rattle.tptp_grammar.proofs.ReaderSteps.{below_is, inside_is, unit_is}
+use Rattle.tptp_lexer.proofs.Laws.{more-none, more-next, behind-here, longer}
+use Rattle.tptp_grammar.proofs.Endings.{ends_unit, ends_formula, Ends, ends_at, formula_ends_unit, formula-alone, ampersand-none, bar-none}
 use Rattle.tptp_grammar.proofs.UnitsRead.{brackets_read, negation_read, quantified_read, truth_read, atom_read, equation_read, inequality_read}
 
 -- a level that is opened leaves one less

@@ -12,11 +12,13 @@ use Rattle.tptp_lexer.specs.declared.kind.Kind.TheVariants as kind
 use Rattle.tptp_lexer.specs.Tokens.{Token}
 use Rattle.tptp_grammar.specs.declared.mark.Mark.{Mark}
 use Rattle.tptp_grammar.specs.declared.mark.Mark.TheVariants.{Fof, Include, Role as RoleMark, Truth, Upper, Connective, Other}
-use Rattle.tptp_grammar.specs.Parts.{same_kind, is_kind, is_lower, is_word, is_name, is_upper, is_plain}
+use Rattle.tptp_grammar.specs.Parts.{is_kind, is_lower, is_word, is_name, is_upper, is_plain}
+use Rattle.tptp_lexer.proofs.Laws.{same_kind-is}
 use Rattle.tptp_grammar.specs.Roles.{role_text}
 use Rattle.tptp_grammar.specs.RoleWords.{roles, role_of}
 use Rattle.tptp_grammar.specs.Marks.{role_mark, marked, mark_in}
-use Rattle.tptp_grammar.specs.Spells.{op_kind, IsWord, IsNaming}
+use Rattle.tptp_grammar.specs.Spells.{op_kind}
+use Rattle.tptp_lexer.specs.Spelling.{IsWord, IsNaming}
 
 -- the kind that a mark tells
 abbrev pub told_kind : Mark → Kind
@@ -106,39 +108,9 @@ text_is_told ts _ text = tt
 pub mark_tells : (ts : List Token) (t : Token) → Tells (mark_in ts t) t
 mark_tells ts t = record { kind = kind_is_told ts t.kind t.text; text = text_is_told ts t.kind t.text }
 
--- kinds that pass the test are the same
-pub same_kind_is : (a b : Kind) → IsTrue (same_kind a b) → a ≡ b
-same_kind_is kind.Lower kind.Lower h = refl
-same_kind_is kind.Upper kind.Upper h = refl
-same_kind_is kind.Quoted kind.Quoted h = refl
-same_kind_is kind.Distinct kind.Distinct h = refl
-same_kind_is kind.Integer kind.Integer h = refl
-same_kind_is kind.Dollar kind.Dollar h = refl
-same_kind_is kind.OpenParenthesis kind.OpenParenthesis h = refl
-same_kind_is kind.CloseParenthesis kind.CloseParenthesis h = refl
-same_kind_is kind.OpenBracket kind.OpenBracket h = refl
-same_kind_is kind.CloseBracket kind.CloseBracket h = refl
-same_kind_is kind.Comma kind.Comma h = refl
-same_kind_is kind.Dot kind.Dot h = refl
-same_kind_is kind.Colon kind.Colon h = refl
-same_kind_is kind.Exclamation kind.Exclamation h = refl
-same_kind_is kind.Question kind.Question h = refl
-same_kind_is kind.Tilde kind.Tilde h = refl
-same_kind_is kind.Ampersand kind.Ampersand h = refl
-same_kind_is kind.Bar kind.Bar h = refl
-same_kind_is kind.Implies kind.Implies h = refl
-same_kind_is kind.Implied kind.Implied h = refl
-same_kind_is kind.Iff kind.Iff h = refl
-same_kind_is kind.Xor kind.Xor h = refl
-same_kind_is kind.Nor kind.Nor h = refl
-same_kind_is kind.Nand kind.Nand h = refl
-same_kind_is kind.Equal kind.Equal h = refl
-same_kind_is kind.NotEqual kind.NotEqual h = refl
-same_kind_is _ _ h = absurd (false≢true h)
-
 -- a mark of a kind tells it
 kind_told : (k : Kind) (m : Mark) → IsTrue (is_kind k m) → told_kind m ≡ k
-kind_told k (Other other) h = sym (same_kind_is k other h)
+kind_told k (Other other) h = sym (same_kind-is k other h)
 kind_told k _ h = absurd (false≢true h)
 
 -- a lower word's mark tells its kind

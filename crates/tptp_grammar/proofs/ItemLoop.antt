@@ -5,10 +5,11 @@ use Rattle.std.proofs.Common.{ap, sym, ◌∙◌, subst, append-nil, length-appe
 use Rattle.text_core.proofs.Laws.{each_front, each_back, value_same}
 use Rattle.logic_core.specs.declared.problem.Item.{Item}
 use Rattle.tptp_lexer.specs.Tokens.{Token}
-use Rattle.tptp_grammar.specs.declared.name_reader.NotRead.{NotRead}
-use Rattle.tptp_grammar.specs.declared.name_reader.NotRead.TheVariants.{NoText, Memory}
-use Rattle.tptp_grammar.specs.Reading.{Read, Gives, with_front, item_from, items_from}
-use Rattle.tptp_grammar.proofs.ReaderSteps.{with_front-append}
+use Rattle.tptp_lexer.specs.declared.reader.NotRead.{NotRead}
+use Rattle.tptp_lexer.specs.declared.reader.NotRead.TheVariants.{NoText, Memory}
+use Rattle.tptp_grammar.specs.Reading.{item_from, items_from}
+use Rattle.tptp_lexer.specs.Reading.{Read, Gives, with_front}
+use Rattle.tptp_lexer.proofs.Laws.{with_front-append}
 
 -- the items so far are in front of those that are left
 abbrev pub StillReads : ℕ → List Token → List Item → List Token → Type 0

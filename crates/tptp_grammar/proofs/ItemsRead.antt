@@ -13,16 +13,17 @@ use Rattle.logic_core.specs.declared.problem.Item.{Item}
 use Rattle.logic_core.specs.declared.problem.Item.TheVariants.{Fof as ItemFof, Include}
 use Rattle.tptp_lexer.specs.declared.kind.Kind.TheVariants as kind
 use Rattle.tptp_lexer.specs.Tokens.{Token, name_of}
-use Rattle.tptp_grammar.specs.declared.name_reader.Naming.TheVariants as naming
+use Rattle.tptp_lexer.specs.declared.reader.Naming.TheVariants as naming
 use Rattle.text_core.specs.declared.limits.TheConstants.{MOST_LEVELS}
 use Rattle.tptp_grammar.specs.Roles.{role_text}
 use Rattle.tptp_grammar.specs.RoleWords.{role_of}
-use Rattle.tptp_grammar.specs.Reading.{Read, behind, reread, name_from, behind_dot, ended, role_from, formula_at, fof_behind, fof_from, selection_from, include_behind, include_from, item_from, items_from}
+use Rattle.tptp_grammar.specs.Reading.{behind_dot, ended, role_from, formula_at, fof_behind, fof_from, selection_from, include_behind, include_from, item_from, items_from}
+use Rattle.tptp_lexer.specs.Reading.{Read, behind, reread, name_from}
 use Rattle.tptp_grammar.specs.Spells.{IsAnnotation, SpellsSelection, SpellsInclude, SpellsItem, SpellsItems}
 use Rattle.tptp_grammar.specs.Spells.IsAnnotation.{no_annotation, source_alone, source_with}
 use Rattle.tptp_grammar.proofs.ReaderSteps.{behind_dot-other, behind_dot-here, items-none, items-next}
-use Rattle.tptp_grammar.proofs.Endings.{behind-here, behind-other, ends_formula, Ends, ends_at}
-use Rattle.tptp_grammar.proofs.ListsRead.{naming_here, file_here, selection_read, longer}
+use Rattle.tptp_grammar.proofs.Endings.{ends_formula, Ends, ends_at}
+use Rattle.tptp_lexer.proofs.Laws.{behind-here, behind-other, naming_here, file_here, selection_read, longer}
 use Rattle.tptp_grammar.proofs.FormulasRead.{formula_read}
 use Rattle.tptp_grammar.proofs.DotsSkipped.{annotation_skipped}
 

@@ -10,17 +10,13 @@ use Rattle.tptp_grammar.specs.declared.refusal.SyntaxRefusal.TheVariants.{Memory
 use Rattle.tptp_grammar.specs.Spells.{AreItemsOf}
 use Rattle.tptp_grammar.specs.Texts.{SyntaxFault}
 use Rattle.tptp_grammar.proofs.Accepted.{text_no_fault}
-use Rattle.tptp_grammar.proofs.Faults.{one_fault}
+pub use Rattle.tptp_grammar.proofs.Faults.{fault_same}
 use Rattle.tptp_grammar.proofs.ItemsRead.{one_text}
 pub use Rattle.tptp_grammar.proofs.ItemsOrRefusal.{items_or_refusal}
 
 -- two lists of items of the same tokens
 pub items_same : (ts : List Token) (a b : List Item) → AreItemsOf ts a → AreItemsOf ts b → a ≡ b
 items_same ts a b first second = one_text a b ts first.spelled second.spelled
-
--- two refusals of the same tokens
-pub fault_same : (lexed : Lexed) (a b : SyntaxRefusal) → SyntaxFault lexed a → SyntaxFault lexed b → a ≡ b
-fault_same lexed a b first second = one_fault lexed a b first second
 
 -- items and a refusal of the same tokens
 pub items_no_fault : (lexed : Lexed) (items : List Item) (fault : SyntaxRefusal) → AreItemsOf lexed.tokens items →

@@ -12,6 +12,7 @@ use Rattle.logic_core.specs.declared.problem.Role.TheVariants.{Axiom, Hypothesis
 use Rattle.token_grammar.specs.Taken.Taken.{stop, token}
 use Rattle.tptp_lexer.specs.declared.kind.Kind.{Kind}
 use Rattle.tptp_lexer.specs.declared.kind.Kind.TheVariants as kind
+use Rattle.tptp_lexer.specs.Numbering.{number_of}
 use Rattle.tptp_lexer.specs.Tokens.{Token, name_of, named}
 use Rattle.tptp_lexer.specs.Kinds.{kind_of, kind_among, kinds}
 use Rattle.tptp_grammar.specs.declared.limit.Limit.{Limit}
@@ -19,12 +20,14 @@ use Rattle.tptp_grammar.specs.declared.limit.Limit.TheVariants.{FreeVariable}
 use Rattle.tptp_grammar.specs.declared.mark.Mark.{Mark}
 use Rattle.tptp_grammar.specs.declared.mark.Mark.TheVariants.{Fof, Include, Role as RoleMark, Truth, Upper}
 use Rattle.tptp_grammar.specs.declared.item_part.ItemPart.TheVariants as parts
-use Rattle.tptp_grammar.specs.Parts.{takes, is_kind, is_lower, is_word, is_name, is_plain, is_upper, same_kind}
+use Rattle.tptp_grammar.specs.Parts.{takes, is_kind, is_lower, is_word, is_name, is_plain, is_upper}
+use Rattle.tptp_lexer.specs.Same.{same_kind}
 use Rattle.tptp_grammar.specs.Limits.{Bindings, open_at, is_bound, used, look}
 use Rattle.tptp_grammar.specs.Roles.{role_text}
 use Rattle.tptp_grammar.specs.RoleWords.{role_of}
-use Rattle.tptp_grammar.specs.Marks.{mark_in, marked, lower_mark, dollar_mark, role_mark, number_of}
-use Rattle.tptp_grammar.specs.Spells.{IsWord, IsNaming, op_kind}
+use Rattle.tptp_grammar.specs.Marks.{mark_in, marked, lower_mark, dollar_mark, role_mark}
+use Rattle.tptp_grammar.specs.Spells.{op_kind}
+use Rattle.tptp_lexer.specs.Spelling.{IsWord, IsNaming}
 use Rattle.tptp_grammar.proofs.Agreement.{Agrees, agrees_with}
 use Rattle.tptp_grammar.proofs.Bindings.{lower_open}
 use Rattle.tptp_grammar.proofs.Watching.{Watching, Goes, plain, same_result}

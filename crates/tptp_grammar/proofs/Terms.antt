@@ -1,7 +1,7 @@
 -- Terms, and lists of values with commas between them.
 use Rattle.std.specs.Prelude.{◌≡◌, ◌+◌, ◌↔◌, IsTrue, ℕ, List, [], ◌∷◌, ◌++◌}
 use Rattle.std.specs.List.{AllByRecursion}
-use Rattle.std.proofs.Common.{refl, sym, ◌∙◌, ap, inl, inr, subst, append_assoc}
+use Rattle.std.proofs.Common.{refl, sym, ◌∙◌, inl, inr, subst}
 use Rattle.text_core.specs.Lists.{IsAmong}
 use Rattle.text_core.proofs.Laws.{among_back}
 use Rattle.text_core.specs.Names.{Text}
@@ -9,31 +9,17 @@ use Rattle.text_core.specs.NameTexts.{is_upper_word}
 use Rattle.logic_core.specs.Allowed.{TermIsBound, AreVariables}
 use Rattle.logic_core.specs.declared.formula.Term.{Term}
 use Rattle.logic_core.specs.declared.formula.Term.TheVariants.{Variable, Constant}
-use Rattle.tptp_lexer.specs.declared.kind.Kind.{Kind}
 use Rattle.tptp_lexer.specs.declared.kind.Kind.TheVariants as kind
 use Rattle.tptp_lexer.specs.Tokens.{Token}
 use Rattle.tptp_grammar.specs.declared.item_part.ItemPart.{ItemPart}
 use Rattle.tptp_grammar.specs.declared.item_part.ItemPart.TheVariants as parts
 use Rattle.tptp_grammar.specs.Parts.{alternatives}
-use Rattle.tptp_grammar.specs.Spells.{SpellsTerm, SpellsMore, SpellsBetween, SpellsArguments, SpellsVariable, SpellsVariables}
-use Rattle.tptp_grammar.specs.Spells.SpellsMore.{none, more}
+use Rattle.tptp_grammar.specs.Spells.{SpellsTerm, SpellsArguments, SpellsVariables}
+use Rattle.tptp_lexer.specs.Spelling.{SpellsMore, SpellsVariable}
+use Rattle.tptp_lexer.specs.Spelling.SpellsMore.{none, more}
+use Rattle.tptp_lexer.proofs.Laws.{between_opens, between_behind}
 use Rattle.tptp_grammar.proofs.Watching.{Watching, nothing, joined, right, left, chosen, meaning, respelled, rescoped, loosened}
 use Rattle.tptp_grammar.proofs.Single.{token_of, closes_of, word_of, used_of, bound_of, upper_name}
-
--- a list between brackets, token by token
-pub opened_list : {X : Type 0} {before after : Kind} {spells : X → List Token → Type 0} {x : X} {xs : List X} {us : List Token}
-    (between : SpellsBetween before after spells (x ∷ xs) us) →
-    (front : List Token) × (back : List Token) × spells x front × SpellsMore spells xs back ×
-    (us ≡ between.first ∷ (front ++ (back ++ (between.last ∷ []))))
-opened_list between =
-    let (front, back, first, later, inner) = between.listed in (
-      front,
-      back,
-      first,
-      later,
-      between.split ∙ ap (λ ts. between.first ∷ ts)
-          (ap (λ ts. ts ++ (between.last ∷ [])) inner ∙ append_assoc front back (between.last ∷ [])),
-    )
 
 -- a name moves to the front of a scope
 moved : (x : Text) (xs scope : List Text) (y : Text) → IsAmong y (xs ++ (x ∷ scope)) ↔ IsAmong y (x ∷ (xs ++ scope))
@@ -91,12 +77,12 @@ module _ (all : List Token) where
       Watching all (parts.AfterWord level ∷ []) level level us scope scope (AllByRecursion (TermIsBound scope) ss)
   arguments_watched [] us spelled = respelled all (sym spelled) (chosen all (inl refl) (nothing all))
   arguments_watched {level = level} {scope = scope} (s ∷ ss) us spelled =
-      let (front, back, first, later, split) = opened_list spelled in
-      respelled all (sym split)
+      let opened = between_opens spelled in
+      respelled all (sym opened.split)
       (chosen all (inr (inl refl))
       (right all (token_of all kind.OpenParenthesis spelled.first refl spelled.opens)
-      (joined all (term_watched s front first)
-      (left all (more_watched (parts.Term level) (parts.TermsRest level) (TermIsBound scope) (inl refl) (inr (inl refl)) term_watched later)
+      (joined all (term_watched s opened.front opened.value)
+      (left all (more_watched (parts.Term level) (parts.TermsRest level) (TermIsBound scope) (inl refl) (inr (inl refl)) term_watched opened.further)
       (closes_of all spelled.last spelled.closes)))))
 
   -- a variable of a quantifier's list
@@ -124,17 +110,12 @@ module _ (all : List Token) where
       Watching all (parts.Quantified (level + 1) ∷ []) level (level + 1) (us ++ (colon ∷ vs)) scope (xs ++ scope) (AreVariables xs × B)
   quantified_watched [] us colon spelled mark body = absurd spelled.listed
   quantified_watched {level = level} {scope = scope} {vs = vs} (x ∷ xs) us colon spelled mark body =
-      let (front, back, first, later, split) = opened_list spelled in
-      let grown : spelled.first ∷ (front ++ (back ++ (spelled.last ∷ colon ∷ vs))) ≡ us ++ (colon ∷ vs) =
-      ap (λ ts. spelled.first ∷ ts)
-      (ap (λ ts. front ++ ts) (sym (append_assoc back (spelled.last ∷ []) (colon ∷ vs))) ∙
-      sym (append_assoc front (back ++ (spelled.last ∷ [])) (colon ∷ vs))) ∙
-      ap (λ ts. ts ++ (colon ∷ vs)) (sym split) in
-      respelled all grown
+      let opened = between_opens spelled in
+      respelled all (between_behind spelled opened (colon ∷ vs))
       (chosen all (inl refl)
       (meaning all (λ h. ((tt, (h.0, h.1.0)), h.1.1)) (λ h. (h.0.1.0, (h.0.1.1, h.1)))
       (right all (token_of all kind.OpenBracket spelled.first refl spelled.opens)
-      (joined all (bound_watched x front first)
-      (joined all (rescoped all (moved x xs scope) (more_bound later))
+      (joined all (bound_watched x opened.front opened.value)
+      (joined all (rescoped all (moved x xs scope) (more_bound opened.further))
       (right all (token_of all kind.CloseBracket spelled.last refl spelled.closes)
       (right all (token_of all kind.Colon colon refl mark) (loosened all level body))))))))

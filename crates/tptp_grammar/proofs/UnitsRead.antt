@@ -9,11 +9,25 @@ use Rattle.logic_core.specs.declared.formula.Formula.{Formula, Pred, Equal, Not}
 use Rattle.tptp_lexer.specs.declared.kind.Kind.{Kind}
 use Rattle.tptp_lexer.specs.declared.kind.Kind.TheVariants as kind
 use Rattle.tptp_lexer.specs.Tokens.{Token, name_of}
-use Rattle.tptp_grammar.specs.Reading.{Read, behind, reread, term_from, equation_at, equation_from, atom_at, atom_from, quantified_from, truth_from, unit_of, unit_with}
-use Rattle.tptp_grammar.specs.Spells.{IsWord, SpellsTerm, SpellsArguments, SpellsVariables, Quantifier, quantifier_kind, quantify, truth_text, truth_formula}
+use Rattle.tptp_grammar.specs.Reading.{term_at, term_from, equation_at, equation_from, atom_at, atom_from, quantified_from, truth_from, unit_of, unit_with}
+use Rattle.tptp_lexer.specs.Reading.{Read, behind, reread}
+use Rattle.tptp_grammar.specs.Spells.{SpellsTerm, SpellsArguments, SpellsVariables, Quantifier, quantifier_kind, quantify, truth_text, truth_formula}
+use Rattle.tptp_lexer.specs.Spelling.{IsWord}
 use Rattle.tptp_grammar.specs.Spells.Quantifier.{for_all, there_is}
-use Rattle.tptp_grammar.proofs.Endings.{behind-here, ends_unit, Ends, atom-alone}
-use Rattle.tptp_grammar.proofs.ListsRead.{term_read, listed_read, variables_read}
+use Rattle.tptp_grammar.proofs.Endings.{ends_unit, Ends, atom-alone}
+use Rattle.tptp_lexer.proofs.Laws.{behind-here, ReadsSpelled, listed_read, variables_read}
+
+-- a term that is spelled is read
+pub term_read : ReadsSpelled SpellsTerm term_from
+unfolding term_from
+term_read (Variable x) us rest s = let (t, is, name, split) = s in
+    rw (split, name) (ap (λ k. term_at k (name_of t) rest) is)
+term_read (Constant x) us rest s = let (t, is, name, split) = s in
+    rw (split, name) (by t is)
+  where
+    by : (t : Token) → IsWord t → term_at t.kind (name_of t) rest ≡ Some (Constant (name_of t), rest)
+    by t (inl is) = ap (λ k. term_at k (name_of t) rest) is
+    by t (inr is) = ap (λ k. term_at k (name_of t) rest) is
 
 module _ (below inside : List Token → Read Formula) where
   -- a unit formula by the kind of its first token

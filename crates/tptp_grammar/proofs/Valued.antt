@@ -10,7 +10,6 @@ use Rattle.logic_core.specs.declared.formula.Formula.{Formula, True, False, Pred
 use Rattle.logic_core.specs.declared.problem.Role.{Role}
 use Rattle.logic_core.specs.declared.problem.Item.{Item}
 use Rattle.logic_core.specs.declared.problem.Item.TheVariants.{Fof as ItemFof, Include}
-use Rattle.tptp_lexer.specs.declared.kind.Kind.{Kind}
 use Rattle.tptp_lexer.specs.declared.kind.Kind.TheVariants as kind
 use Rattle.tptp_lexer.specs.Tokens.{Token, name_of}
 use Rattle.text_core.specs.declared.limits.TheConstants.{MOST_LEVELS}
@@ -20,10 +19,12 @@ use Rattle.tptp_grammar.specs.Parts.{alternatives, fof_items}
 use Rattle.tptp_grammar.specs.Roles.{role_text}
 use Rattle.tptp_grammar.specs.Marks.{mark_in, marks_of}
 use Rattle.tptp_grammar.specs.Limits.{Bindings, items_watcher}
-use Rattle.tptp_grammar.specs.Spells.{IsNaming, SpellsName, SpellsVariable, SpellsTerm, SpellsMore, SpellsBetween, SpellsFormula, SpellsUnitary, IsGeneral, AreGenerals, IsAnnotation, SpellsSelection, SpellsItems}
+use Rattle.tptp_grammar.specs.Spells.{SpellsTerm, SpellsFormula, SpellsUnitary, IsGeneral, AreGenerals, IsAnnotation, SpellsSelection, SpellsItems}
+use Rattle.tptp_lexer.specs.Spelling.{IsNaming, SpellsName, SpellsVariable, SpellsMore}
 use Rattle.tptp_grammar.specs.Spells.Quantifier.{for_all, there_is}
 use Rattle.tptp_grammar.specs.Spells.Chain.{conjunction, disjunction}
-use Rattle.tptp_grammar.specs.Spells.SpellsMore.{none, more}
+use Rattle.tptp_lexer.specs.Spelling.SpellsMore.{none, more}
+use Rattle.tptp_lexer.proofs.Laws.{between_of}
 use Rattle.tptp_grammar.specs.Spells.SpellsFormula.{alone, chain, binary}
 use Rattle.tptp_grammar.specs.Spells.SpellsRest.{end, further}
 use Rattle.tptp_grammar.specs.Spells.SpellsUnitary.{brackets, negation, quantified, truth, atom, equation, inequality}
@@ -32,7 +33,7 @@ use Rattle.tptp_grammar.specs.Spells.IsGeneralList.{empty_list, whole_list}
 use Rattle.tptp_grammar.specs.Spells.AreGenerals.{no_general, next_general}
 use Rattle.tptp_grammar.specs.Spells.IsData.{plain, word_alone, word_with}
 use Rattle.tptp_grammar.specs.Spells.IsAnnotation.{no_annotation, source_alone, source_with}
-use Rattle.tptp_grammar.proofs.Folding.{EachLeads, text_holds}
+use Rattle.token_grammar.proofs.Folding.{EachLeads, text_holds}
 use Rattle.tptp_grammar.proofs.Shapes.{IsLowerWord, EndsItem, Closes, EndsAtom, shape_of, token_fits}
 use Rattle.tptp_grammar.proofs.Inversion.{mark_tells}
 use Rattle.tptp_grammar.proofs.Keeping.{kept_items, kept_text}
@@ -40,20 +41,6 @@ use Rattle.tptp_grammar.proofs.Keeping.{kept_items, kept_text}
 -- a level that is opened has one below the most
 below : (level : ℕ) → level + 1 ≤ MOST_LEVELS → level < MOST_LEVELS
 below level low = omega arith
-
--- values between brackets, from the first one and the further ones
-listed : {X : Type 0} (before after : Kind) (spells : X → List Token → Type 0) (x : X) (xs : List X) (first last : Token)
-    (us vs : List Token) → first.kind ≡ before → spells x us → SpellsMore spells xs vs → last.kind ≡ after →
-    SpellsBetween before after spells (x ∷ xs) (first ∷ (us ++ (vs ++ (last ∷ []))))
-listed before after spells x xs first last us vs o s rest c = record {
-  first = first;
-  inner = us ++ vs;
-  last = last;
-  opens = o;
-  listed = (us, vs, s, rest, refl);
-  closes = c;
-  split = ap (λ y. first ∷ y) (sym (append_assoc us vs (last ∷ [])));
-}
 
 -- a formula's item behind its first word
 fof_behind : (first name comma role between : Token) (formula tail : List Token) (r : Role) (f : Formula) →
@@ -121,7 +108,7 @@ selecting : (comma first name : Token) (names : List Text) (ts : List Token) (cl
     Closes (SpellsSelection (Some (name_of name ∷ names))) (comma ∷ first ∷ name ∷ (ts ++ (close ∷ last ∷ dot ∷ [])))
 selecting comma first name names ts close last dot c o n rest k l d =
     let inner : List Token = first ∷ name ∷ (ts ++ (close ∷ [])) in
-    let brackets = listed kind.OpenBracket kind.CloseBracket (SpellsName IsNaming) (name_of name) names first close (name ∷ []) ts o
+    let brackets = between_of kind.OpenBracket kind.CloseBracket (SpellsName IsNaming) (name_of name) names first close (name ∷ []) ts o
     (name, n, refl, refl) rest k in
     closed (SpellsSelection (Some (name_of name ∷ names))) (comma ∷ inner)
     (comma ∷ first ∷ name ∷ (ts ++ (close ∷ last ∷ dot ∷ []))) last dot (comma, inner, c, brackets, refl) l d
@@ -134,7 +121,7 @@ atom_behind : (level : ℕ) (first : Token) (us ts : List Token) (last : Token) 
 atom_behind level first us ts last s ss o is rest c word w = (
   Pred (name_of word) (s ∷ ss),
   atom word (s ∷ ss) (first ∷ (us ++ (ts ++ (last ∷ [])))) w
-      (listed kind.OpenParenthesis kind.CloseParenthesis SpellsTerm s ss first last us ts o is rest c) refl refl,
+      (between_of kind.OpenParenthesis kind.CloseParenthesis SpellsTerm s ss first last us ts o is rest c) refl refl,
 )
 
 -- what the members of an alternative make
@@ -226,7 +213,7 @@ made (parts.Quantified level) = (
     us = first ∷ t ∷ (ts ++ (last ∷ []));
     colon = colon;
     vs = vs;
-    are_variables = listed kind.OpenBracket kind.CloseBracket SpellsVariable (name_of t) rest.0 first last (t ∷ []) ts o
+    are_variables = between_of kind.OpenBracket kind.CloseBracket SpellsVariable (name_of t) rest.0 first last (t ∷ []) ts o
         (t, x, refl, refl) rest.1 c;
     is_colon = k;
     is_body = g.1;

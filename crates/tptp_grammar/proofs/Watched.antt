@@ -18,13 +18,14 @@ use Rattle.tptp_grammar.specs.declared.item_part.ItemPart.TheVariants as parts
 use Rattle.tptp_grammar.specs.Parts.{fof_items}
 use Rattle.tptp_grammar.specs.Limits.{Bindings, items_watcher}
 use Rattle.tptp_grammar.specs.Marks.{marks_of}
-use Rattle.tptp_grammar.specs.Spells.{IsNaming, SpellsName, SpellsFof, SpellsInclude, SpellsSelection, SpellsItem, SpellsItems, IsAnnotation}
+use Rattle.tptp_grammar.specs.Spells.{SpellsFof, SpellsInclude, SpellsSelection, SpellsItem, SpellsItems, IsAnnotation, ItemIsClosed}
+use Rattle.tptp_lexer.specs.Spelling.{IsNaming, SpellsName}
+use Rattle.tptp_lexer.proofs.Laws.{between_opens, between_behind}
 use Rattle.tptp_grammar.specs.Spells.IsAnnotation.{no_annotation, source_alone, source_with}
-use Rattle.tptp_grammar.specs.Spells.{ItemIsClosed}
 use Rattle.tptp_grammar.proofs.Agreement.{agrees_nowhere}
 use Rattle.tptp_grammar.proofs.Watching.{Watching, nothing, joined, right, left, chosen, meaning, respelled}
 use Rattle.tptp_grammar.proofs.Single.{token_of, naming_of, fof_of, include_of, role_of_token}
-use Rattle.tptp_grammar.proofs.Terms.{more_watched, opened_list}
+use Rattle.tptp_grammar.proofs.Terms.{more_watched}
 use Rattle.tptp_grammar.proofs.Scoped.{formula_watched}
 use Rattle.tptp_grammar.proofs.Annotated.{general_watched, general_list_watched}
 
@@ -84,18 +85,14 @@ module _ (all : List Token) where
       respelled all (ap (λ ts. ts ++ (last ∷ dot ∷ [])) (sym spelled)) (chosen all (inl refl) (end_watched last dot closes ends))
   selection_watched (Some []) selection last dot (comma, us, mark, between, split) closes ends = absurd between.listed
   selection_watched (Some (name ∷ names)) selection last dot (comma, us, mark, between, split) closes ends =
-      let (front, back, first, later, shape) = opened_list between in
-      let whole : comma ∷ between.first ∷ (front ++ (back ++ (between.last ∷ last ∷ dot ∷ []))) ≡ selection ++ (last ∷ dot ∷ []) =
-      ap (λ ts. comma ∷ between.first ∷ ts)
-      (ap (λ ts. front ++ ts) (sym (append_assoc back (between.last ∷ []) (last ∷ dot ∷ []))) ∙
-      sym (append_assoc front (back ++ (between.last ∷ [])) (last ∷ dot ∷ []))) ∙
-      (ap (λ ts. comma ∷ (ts ++ (last ∷ dot ∷ []))) (sym shape) ∙ ap (λ ts. ts ++ (last ∷ dot ∷ [])) (sym split)) in
-      respelled all whole
+      let opened = between_opens between in
+      let ends_so = last ∷ dot ∷ [] in
+      respelled all (ap (λ ts. comma ∷ ts) (between_behind between opened ends_so) ∙ ap (λ ts. ts ++ ends_so) (sym split))
       (chosen all (inr (inl refl)) (right all (token_of all kind.Comma comma refl mark)
       (right all (token_of all kind.OpenBracket between.first refl between.opens)
-      (right all (naming_watched name front first)
+      (right all (naming_watched name opened.front opened.value)
       (right all (meaning all (λ h. tt) (λ h. each_free names)
-      (more_watched all parts.Name parts.NamesRest (λ name. Unit {0}) (inl refl) (inr (inl refl)) naming_watched later))
+      (more_watched all parts.Name parts.NamesRest (λ name. Unit {0}) (inl refl) (inr (inl refl)) naming_watched opened.further))
       (right all (token_of all kind.CloseBracket between.last refl between.closes) (end_watched last dot closes ends)))))))
 
   -- an inclusion

@@ -8,7 +8,7 @@ use Rattle.text_core.proofs.Laws.{among_front, among_back}
 use Rattle.token_grammar.specs.Taken.{Taken}
 use Rattle.token_grammar.specs.Taken.Taken.{stop, token, part}
 use Rattle.token_grammar.specs.Watch.{Sees}
-use Rattle.token_grammar.proofs.Laws.{joined as joined_taken}
+use Rattle.token_grammar.proofs.Laws.{joined as joined_taken, sees_both, sees_apart, taken_length}
 use Rattle.tptp_lexer.specs.declared.kind.Kind.{Kind}
 use Rattle.tptp_lexer.specs.Tokens.{Token}
 use Rattle.tptp_lexer.specs.Kinds.{kind_of}
@@ -21,7 +21,6 @@ use Rattle.tptp_grammar.specs.Limits.{Bindings, open_at, opened, look, items_wat
 use Rattle.tptp_grammar.specs.Marks.{mark_in}
 use Rattle.tptp_grammar.proofs.Agreement.{Agrees}
 use Rattle.tptp_grammar.proofs.Bindings.{lower_open, higher_open}
-use Rattle.tptp_grammar.proofs.Seeing.{sees_both, sees_apart}
 
 -- each token of a part of a text is one of the text's
 abbrev pub IsWithin : List Token → List Token → Type 0
@@ -76,7 +75,7 @@ module _ (all : List Token) where
       Taken fof_items true row (map (mark_in all) us) ps → Goes all before (ps ++ qs) (us ++ vs) after →
       (between : Bindings) × Goes all before ps us between × Goes all between qs vs after
   goes_apart row ps qs us vs before after taken goes =
-      sees_apart items_watcher qs (map (mark_in all) vs) before after taken
+      sees_apart items_watcher ps qs (map (mark_in all) us) (map (mark_in all) vs) before after (taken_length taken)
       (subst (λ marks. Sees items_watcher before (ps ++ qs) marks after) (map-append (mark_in all) us vs) goes)
 
   -- no tokens

@@ -7,7 +7,6 @@ pub mod Limits
 pub mod Roles
 pub mod RoleWords
 pub mod Marks
-pub mod Numbering
 pub mod Spells
 pub mod Texts
 pub mod Told

@@ -1,12 +1,12 @@
 -- What the grammar looks at in each token of a text.
-use Rattle.std.specs.Prelude.{ℕ, true, false, List, map, Option, Some, None, codes, if◌then◌else◌}
-use Rattle.std.specs.List.{position_or_len}
+use Rattle.std.specs.Prelude.{true, false, List, map, Option, Some, None, codes, if◌then◌else◌}
 use Rattle.std.specs.Str.{bytes_eq}
 use Rattle.text_core.specs.Names.{Text}
 use Rattle.logic_core.specs.declared.formula.Op.TheVariants as op
 use Rattle.logic_core.specs.declared.problem.Role.{Role}
 use Rattle.tptp_lexer.specs.declared.kind.Kind.{Kind}
 use Rattle.tptp_lexer.specs.declared.kind.Kind.TheVariants as kind
+use Rattle.tptp_lexer.specs.Numbering.{number_of}
 use Rattle.tptp_lexer.specs.Tokens.{Token}
 use Rattle.tptp_grammar.specs.RoleWords.{role_of}
 use Rattle.tptp_grammar.specs.declared.mark.Mark.{Mark}
@@ -26,10 +26,6 @@ abbrev pub dollar_mark : Text → Mark
 dollar_mark text =
     if bytes_eq text (codes "$true") then Truth true else
     (if bytes_eq text (codes "$false") then Truth false else Other kind.Dollar)
-
--- the number of a word among the tokens of a text: that of the first that is this word
-abbrev pub number_of : List Token → Text → ℕ
-number_of ts text = position_or_len (λ (t : Token). bytes_eq t.text text) ts
 
 -- the mark of a token of this kind and with this text, among the tokens of a text
 abbrev pub marked : List Token → Kind → Text → Mark

@@ -1,12 +1,12 @@
 ghost use Rattle.std.specs.Prelude.{◌≡◌, [], ◌∷◌, length};
 ghost use Rattle.logic_core.specs.declared.formula.Term.TheVariants.{Variable, Constant};
 ghost use Rattle.tptp_lexer.specs.declared.kind.Kind.TheVariants as kind;
-ghost use Rattle.tptp_grammar.specs.Reading.{Gives, with_front, more_from, listed_from, term_from, equation_from, atom_from};
+ghost use Rattle.tptp_grammar.specs.Reading.{term_from, equation_from, atom_from};
+ghost use Rattle.tptp_lexer.specs.Reading.{Gives, with_front, more_from, listed_from};
 
-use crate::name_reader::{NotRead, behind, skip};
 use logic_core::{Boxed, Formula, List, Name, Term};
 use std::alloc::Global;
-use tptp_lexer::{Cursor, Kind};
+use tptp_lexer::{Cursor, Kind, NotRead};
 
 /// A term.
 #[tactic(auto, unfolding(crate::specs::Reading::term_from))]
@@ -27,7 +27,7 @@ pub(crate) fn term<'t, 'a>(
 }
 
 /// A term in front of further ones, each behind a comma.
-#[tactic(auto, using(crate::proofs::ReaderSteps::further))]
+#[tactic(auto, using(tptp_lexer::proofs::Laws::further))]
 fn more_terms<'t, 'a>(
     alloc: Global,
     first: Term,
@@ -41,7 +41,7 @@ fn more_terms<'t, 'a>(
     let count = cursor.len();
     let mut rest = cursor;
     for _ in 0..count {
-        let Some(after) = behind(&rest, Kind::Comma) else {
+        let Some(after) = rest.behind(Kind::Comma) else {
             return Ok((terms, rest));
         };
         let (next, tail) = term(alloc, &after)?;
@@ -60,7 +60,7 @@ fn arguments<'t, 'a>(
 {
     let (first, rest) = term(alloc, cursor)?;
     let (terms, rest) = more_terms(alloc, first, rest)?;
-    let rest = skip(&rest, Kind::CloseParenthesis)?;
+    let rest = rest.skip(Kind::CloseParenthesis)?;
     Ok((terms, rest))
 }
 

@@ -1,13 +1,13 @@
 ghost use Rattle.std.specs.Prelude.{◌≡◌, [], ◌∷◌, length, codes, IfOk, if◌then◌else◌};
 ghost use Rattle.std.specs.Str.{bytes_eq};
 ghost use Rattle.logic_core.specs.declared.formula.Formula.{True, False, Binary};
-ghost use Rattle.tptp_grammar.specs.Reading.{Gives, op_of, with_front, more_from, below_at, inside_at, unit_at, formula_at};
+ghost use Rattle.tptp_grammar.specs.Reading.{op_of, below_at, inside_at, unit_at, formula_at};
+ghost use Rattle.tptp_lexer.specs.Reading.{Gives, with_front, more_from};
 
 use crate::atom_reader::{atom, equation};
-use crate::name_reader::{Naming, NotRead, behind, names, skip};
 use logic_core::{Boxed, Formula, List, Memory, Op, Term};
 use std::alloc::Global;
-use tptp_lexer::{Cursor, Kind};
+use tptp_lexer::{Cursor, Kind, Naming, NotRead};
 
 /// The truth value that a word behind a dollar names.
 fn truth(text: &[u8]) -> Formula
@@ -60,7 +60,7 @@ fn unit<'t, 'a>(
     match token.kind() {
         Kind::OpenParenthesis => {
             let (formula, rest) = inside(alloc, &rest, depth)?;
-            let rest = skip(&rest, Kind::CloseParenthesis)?;
+            let rest = rest.skip(Kind::CloseParenthesis)?;
             Ok((formula, rest))
         }
         Kind::Tilde => {
@@ -68,14 +68,14 @@ fn unit<'t, 'a>(
             Ok((Formula::Not(Boxed::new(alloc, formula)?), rest))
         }
         Kind::Exclamation => {
-            let (names, rest) = names(alloc, &rest, Naming::OfVariable)?;
-            let rest = skip(&rest, Kind::Colon)?;
+            let (names, rest) = rest.names(alloc, Naming::OfVariable)?;
+            let rest = rest.skip(Kind::Colon)?;
             let (body, rest) = below(alloc, &rest, depth)?;
             Ok((Formula::ForAll(names, Boxed::new(alloc, body)?), rest))
         }
         Kind::Question => {
-            let (names, rest) = names(alloc, &rest, Naming::OfVariable)?;
-            let rest = skip(&rest, Kind::Colon)?;
+            let (names, rest) = rest.names(alloc, Naming::OfVariable)?;
+            let rest = rest.skip(Kind::Colon)?;
             let (body, rest) = below(alloc, &rest, depth)?;
             Ok((Formula::Exists(names, Boxed::new(alloc, body)?), rest))
         }
@@ -120,7 +120,7 @@ fn inside<'t, 'a>(
 
 /// A unit formula in front of further ones, each behind a token of this kind.
 #[cycle(formulas)]
-#[tactic(auto, using(crate::proofs::ReaderSteps::further))]
+#[tactic(auto, using(tptp_lexer::proofs::Laws::further))]
 fn more_units<'t, 'a>(
     alloc: Global,
     first: Formula,
@@ -136,7 +136,7 @@ fn more_units<'t, 'a>(
     let count = cursor.len();
     let mut rest = cursor;
     for _ in 0..count {
-        let Some(after) = behind(&rest, sign) else {
+        let Some(after) = rest.behind(sign) else {
             return Ok((units, rest));
         };
         let (next, tail) = unit(alloc, &after, depth)?;
@@ -148,7 +148,7 @@ fn more_units<'t, 'a>(
 
 /// A formula, where so many levels may be opened.
 #[cycle(formulas)]
-#[tactic(auto, unfolding(crate::specs::Reading::formula_at, crate::specs::Reading::rest_from), using(crate::proofs::ReaderSteps::chain_read))]
+#[tactic(auto, unfolding(crate::specs::Reading::formula_at, crate::specs::Reading::rest_from), using(tptp_lexer::proofs::Laws::reread_front))]
 pub(crate) fn formula<'t, 'a>(
     alloc: Global,
     cursor: &Cursor<'t, 'a>,

@@ -1,14 +1,14 @@
 ghost use Rattle.std.specs.Prelude.{◌≡◌, [], length};
 ghost use Rattle.tptp_lexer.specs.declared.kind.Kind.TheVariants as kind;
-ghost use Rattle.tptp_grammar.specs.Reading.{Gives, behind, behind_dot, role_from, fof_from, selection_from, include_from, item_from, items_from, IsReadable};
+ghost use Rattle.tptp_grammar.specs.Reading.{behind_dot, role_from, fof_from, selection_from, include_from, item_from, items_from, IsReadable};
+ghost use Rattle.tptp_lexer.specs.Reading.{Gives, behind};
 
 use crate::formula_reader::formula;
-use crate::name_reader::{Naming, NotRead, behind, is_same, name, names, skip};
 use crate::role::role_of;
 use logic_core::{Fof, Item, Items, List, Name, Role};
 use std::alloc::Global;
 use text_core::MOST_LEVELS;
-use tptp_lexer::{Cursor, Kind, Tokens};
+use tptp_lexer::{Cursor, Kind, Naming, NotRead, Tokens};
 
 /// What is left behind the first dot.
 #[tactic(auto, using(crate::proofs::ReaderSteps::dots))]
@@ -17,7 +17,7 @@ fn behind_dot<'t, 'a>(cursor: Cursor<'t, 'a>) -> Result<Cursor<'t, 'a>, NotRead>
 {
     let mut rest = cursor;
     while let Some((token, tail)) = rest.next() {
-        if is_same(token.kind(), Kind::Dot) {
+        if token.kind().is(Kind::Dot) {
             return Ok(tail);
         }
         rest = tail;
@@ -48,11 +48,11 @@ fn fof<'t, 'a>(
 ) -> Result<(Item, Cursor<'t, 'a>), NotRead>
     ensures { Gives (λ read. read) result (fof_from depth cursor.now) }
 {
-    let rest = skip(cursor, Kind::OpenParenthesis)?;
-    let (name, rest) = name(alloc, &rest, Naming::OfFormula)?;
-    let rest = skip(&rest, Kind::Comma)?;
+    let rest = cursor.skip(Kind::OpenParenthesis)?;
+    let (name, rest) = rest.name(alloc, Naming::OfFormula)?;
+    let rest = rest.skip(Kind::Comma)?;
     let (role, rest) = role(&rest)?;
-    let rest = skip(&rest, Kind::Comma)?;
+    let rest = rest.skip(Kind::Comma)?;
     let (formula, rest) = formula(alloc, &rest, depth)?;
     let rest = behind_dot(rest)?;
     let fof = Fof {
@@ -71,10 +71,10 @@ fn selection<'t, 'a>(
     ensures { Gives (λ read. read) result (selection_from
         (behind kind.Comma cursor.entry) cursor.entry) }
 {
-    match behind(&cursor, Kind::Comma) {
+    match cursor.behind(Kind::Comma) {
         None => Ok((None, cursor)),
         Some(rest) => {
-            let (names, rest) = names(alloc, &rest, Naming::OfFormula)?;
+            let (names, rest) = rest.names(alloc, Naming::OfFormula)?;
             Ok((Some(names), rest))
         }
     }
@@ -88,8 +88,8 @@ fn include<'t, 'a>(
 ) -> Result<(Item, Cursor<'t, 'a>), NotRead>
     ensures { Gives (λ read. read) result (include_from cursor.now) }
 {
-    let rest = skip(cursor, Kind::OpenParenthesis)?;
-    let (file, rest) = name(alloc, &rest, Naming::OfFile)?;
+    let rest = cursor.skip(Kind::OpenParenthesis)?;
+    let (file, rest) = rest.name(alloc, Naming::OfFile)?;
     let (only, rest) = selection(alloc, rest)?;
     let rest = behind_dot(rest)?;
     Ok((Item::Include { file, only }, rest))

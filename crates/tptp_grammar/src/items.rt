@@ -11,14 +11,12 @@ use crate::item_part::ItemPart;
 use crate::item_reader::read_text;
 use crate::limit::Limit;
 use crate::mark::Mark;
-use crate::marks::Marks;
-use crate::name_reader::NotRead;
 use crate::refusal::SyntaxRefusal;
 use crate::scopes::Scopes;
 use logic_core::{Items, Memory};
 use std::alloc::Global;
 use token_grammar::{Refusal, Source, recognize};
-use tptp_lexer::{Kind, Tokens};
+use tptp_lexer::{Kind, NotRead, NumberedTokens, Tokens};
 
 /// Whether a token that is refused behind this part's token would make a term with arguments.
 fn makes_function(last: Option<ItemPart>, mark: Mark) -> bool
@@ -45,10 +43,10 @@ fn limited(limit: Limit, offset: u32) -> SyntaxRefusal
 /// How the machine's refusal of the tokens is told.
 fn told(
     tokens: &Tokens<'_>,
-    marks: &Marks<'_, '_>,
+    numbered: &NumberedTokens<'_, '_>,
     refusal: Refusal<ItemPart, Limit>,
 ) -> SyntaxRefusal
-    requires marks { marks.now ≡ marks_of tokens.now.tokens }
+    requires numbered { numbered.now ≡ tokens.now.tokens }
     requires refused { IsMachineRefusal tokens.now refusal }
     ensures { Tells tokens.now refusal result }
 {
@@ -56,7 +54,7 @@ fn told(
         Refusal::Memory => SyntaxRefusal::Memory,
         Refusal::Unexpected { number, last } => {
             let offset = tokens.start(number);
-            if makes_function(last, marks.mark(number)) {
+            if makes_function(last, numbered.mark(number)) {
                 SyntaxRefusal::FunctionTerm(offset)
             } else {
                 SyntaxRefusal::Unexpected(offset)
@@ -73,11 +71,11 @@ fn check_text(alloc: Global, tokens: &Tokens<'_>) -> Result<(), SyntaxRefusal>
     ensures refused { IfErr result (λ refusal. (refusal ≡ refusals.Memory) ⊎
         SyntaxFault tokens.now refusal) }
 {
-    let marks = Marks::new(alloc, tokens)?;
+    let numbered = NumberedTokens::new(alloc, tokens)?;
     let mut scopes = Scopes::new(alloc);
-    match recognize(alloc, ItemPart::Items, &marks, &mut scopes) {
+    match recognize(alloc, ItemPart::Items, &numbered, &mut scopes) {
         Ok(()) => Ok(()),
-        Err(refusal) => Err(told(tokens, &marks, refusal)),
+        Err(refusal) => Err(told(tokens, &numbered, refusal)),
     }
 }
 

@@ -14,7 +14,6 @@ mod law;
 mod limit;
 mod mark;
 mod marks;
-mod name_reader;
 mod printed_form;
 mod refusal;
 mod role;

@@ -21,4 +21,8 @@ pub mod Spelled
 pub mod Names
 pub mod Order
 pub mod Whole
+pub mod Same
+pub mod Further
+pub mod ListsRead
+pub mod Numbering
 pub mod Laws

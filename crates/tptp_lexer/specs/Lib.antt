@@ -3,6 +3,10 @@ pub mod Tokens
 pub mod Columns
 pub mod Order
 pub mod First
+pub mod Same
+pub mod Spelling
+pub mod Reading
+pub mod Numbering
 pub mod Refused
 pub mod Scanning
 pub mod Spans

@@ -10,8 +10,10 @@ mod kind;
 mod law;
 mod lexer;
 mod name;
+mod numbered_tokens;
 mod piece;
 mod quote;
+mod reader;
 mod refusal;
 mod sign;
 mod token;
@@ -25,6 +27,8 @@ pub use law::{
     tokens_or_refusal,
 };
 pub use lexer::tokens;
+pub use numbered_tokens::NumberedTokens;
+pub use reader::{Naming, NotRead};
 pub use refusal::LexRefusal;
 pub use token::Token;
 pub use token_list::Tokens;

@@ -2,8 +2,7 @@
 use Rattle.std.proofs.Common.{◌≡◌, ℕ, true, false, ◌+◌, ◌<◌, ◌≤◌, List, [], ◌∷◌, ◌++◌, codes, refl, ap, sym, ◌∙◌, arith, append_assoc}
 use Rattle.std.proofs.lemmas.List.{append-nil}
 use Rattle.text_core.specs.Names.{Text}
-use Rattle.logic_core.specs.Allowed.{depth, greatest_depth, nesting}
-use Rattle.logic_core.specs.Allowed.{TermIsBound, AreVariables, TwoOrMore, IsBoundIn, EachIsBoundIn}
+use Rattle.logic_core.specs.Allowed.{depth, greatest_depth, nesting, TermIsBound, AreVariables, TwoOrMore, IsBoundIn, EachIsBoundIn}
 use Rattle.logic_core.specs.declared.formula.Op.{Op}
 use Rattle.logic_core.specs.declared.formula.Term.{Term}
 use Rattle.logic_core.specs.declared.formula.Formula.{Formula, True, False, Pred, Equal, Not, Binary, Not', And', Or', Binary', ForAll', Exists', Row_of-Formula, end_of-Formula, more_of-Formula}

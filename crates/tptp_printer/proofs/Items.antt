@@ -13,7 +13,8 @@ use Rattle.logic_core.specs.declared.problem.Item.TheVariants.{Fof as ItemFof, I
 use Rattle.tptp_lexer.specs.declared.kind.Kind.TheVariants as kind
 use Rattle.tptp_lexer.specs.Tokens.{Token, AreTokens, stop}
 use Rattle.tptp_grammar.specs.Roles.{role_text}
-use Rattle.tptp_grammar.specs.Spells.{IsNaming, SpellsName, SpellsListed, SpellsFormula, no_annotation, SpellsFof, SpellsSelection, SpellsInclude, SpellsItem, SpellsItems, ItemIsClosed, AreItemsOf}
+use Rattle.tptp_grammar.specs.Spells.{SpellsFormula, no_annotation, SpellsFof, SpellsSelection, SpellsInclude, SpellsItem, SpellsItems, ItemIsClosed, AreItemsOf}
+use Rattle.tptp_lexer.specs.Spelling.{IsNaming, SpellsName, SpellsListed}
 use Rattle.tptp_printer.specs.Canonical.{name_text, selection_text, item_text, items_text, problem_text}
 use Rattle.tptp_printer.specs.Named.{SelectionIsNamed, ItemIsNamed}
 use Rattle.tptp_printer.proofs.Pieces.{Any, NoWord, Gives, Both, IsOne, IsToken, nothing, seen, followed}

@@ -10,7 +10,8 @@ use Rattle.logic_core.specs.declared.formula.Term.TheVariants.{Variable, Constan
 use Rattle.tptp_lexer.specs.declared.kind.Kind.{Kind}
 use Rattle.tptp_lexer.specs.declared.kind.Kind.TheVariants as kind
 use Rattle.tptp_lexer.specs.Tokens.{Token}
-use Rattle.tptp_grammar.specs.Spells.{SpellsVariable, SpellsTerm, none, more, SpellsListed, SpellsBetween, SpellsArguments, SpellsVariables}
+use Rattle.tptp_grammar.specs.Spells.{SpellsTerm, SpellsArguments, SpellsVariables}
+use Rattle.tptp_lexer.specs.Spelling.{none, more, SpellsVariable, SpellsListed, SpellsBetween}
 use Rattle.tptp_printer.specs.Canonical.{term_text, joined_texts, arguments_text, variables_text}
 use Rattle.tptp_printer.specs.Named.{TermIsNamed}
 use Rattle.tptp_printer.proofs.Pieces.{Any, NoWord, Gives, Both, IsOne, nothing, seen, before, followed}

@@ -11,7 +11,7 @@ use Rattle.tptp_lexer.specs.declared.kind.Kind.TheVariants.{Lower, Upper, Quoted
 use Rattle.tptp_lexer.specs.Kinds.{is_printable, is_body, is_integer}
 use Rattle.tptp_lexer.specs.Tokens.{Token, unescaped, named}
 use Rattle.tptp_lexer.proofs.Laws.{lower_longest, upper_longest, dollar_longest, integer_longest, word_longest, inside_of, body_plain, body_escape}
-use Rattle.tptp_grammar.specs.Spells.{IsWord, IsNaming, SpellsName, SpellsVariable}
+use Rattle.tptp_lexer.specs.Spelling.{IsWord, IsNaming, SpellsName, SpellsVariable}
 use Rattle.tptp_printer.specs.Canonical.{escaped, quoted_text, word_text, name_text}
 use Rattle.tptp_printer.proofs.Pieces.{Any, NoWord, Gives, IsToken, one_token, seen, before}
 

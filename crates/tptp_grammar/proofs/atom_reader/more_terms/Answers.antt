@@ -1,6 +1,6 @@
 use Rattle.tptp_lexer.specs.declared.kind.Kind.TheVariants as kind
 use Rattle.tptp_grammar.specs.Reading.{term_from}
-use Rattle.tptp_grammar.proofs.ReaderSteps.{goes_on}
+use Rattle.tptp_lexer.proofs.Laws.{goes_on}
 use Rattle.tptp_grammar.proofs.atom_reader.more_terms.Goals as goal
 
 pub loop-preserved : goal.loop-preserved

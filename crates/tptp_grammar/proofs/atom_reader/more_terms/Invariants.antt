@@ -1,6 +1,7 @@
 use Rattle.std.proofs.Common.{◌≡◌, [], ◌∷◌, ◌-◌, length}
 use Rattle.tptp_lexer.specs.declared.kind.Kind.TheVariants as kind
-use Rattle.tptp_grammar.specs.Reading.{term_from, with_front, more_from}
+use Rattle.tptp_grammar.specs.Reading.{term_from}
+use Rattle.tptp_lexer.specs.Reading.{with_front, more_from}
 use Rattle.tptp_grammar.proofs.atom_reader.more_terms.Given as goal
 
 -- the terms so far are in front of those that are left

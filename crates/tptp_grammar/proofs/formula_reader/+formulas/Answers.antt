@@ -1,5 +1,5 @@
 use Rattle.tptp_grammar.specs.Reading.{unit_at}
-use Rattle.tptp_grammar.proofs.ReaderSteps.{goes_on}
+use Rattle.tptp_lexer.proofs.Laws.{goes_on}
 use Rattle.tptp_grammar.proofs.formula_reader.+formulas.Goals as goal
 
 pub more_units-loop-preserved : goal.more_units-loop-preserved

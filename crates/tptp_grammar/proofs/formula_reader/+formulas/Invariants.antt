@@ -1,5 +1,6 @@
 use Rattle.std.proofs.Common.{◌≡◌, [], ◌∷◌, ◌+◌, ◌*◌, ◌-◌, length}
-use Rattle.tptp_grammar.specs.Reading.{with_front, more_from, unit_at}
+use Rattle.tptp_grammar.specs.Reading.{unit_at}
+use Rattle.tptp_lexer.specs.Reading.{with_front, more_from}
 use Rattle.tptp_grammar.proofs.formula_reader.+formulas.Given as goal
 
 abbrev pub decreases-below : goal.decreases-below

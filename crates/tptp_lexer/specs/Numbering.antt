@@ -1,13 +1,17 @@
--- How upper words are numbered while the tokens are gone through: a table has the number of the
--- first token that is the word.
+-- Upper words by number: that of the first token that is the word.
 use Rattle.std.specs.Prelude.{◌≡◌, ℕ, List, Option, Some, position}
 use Rattle.std.specs.Borrow.{Bor}
-use Rattle.std.specs.Str.{bytes_eq}
 use Rattle.std.specs.HashMap.{HashMap, get_by}
+use Rattle.std.specs.List.{position_or_len}
+use Rattle.std.specs.Str.{bytes_eq}
 use Rattle.text_core.specs.Names.{Text}
 use Rattle.tptp_lexer.specs.declared.kind.Kind.TheVariants.{Upper}
 use Rattle.tptp_lexer.specs.Kinds.{kind_of}
 use Rattle.tptp_lexer.specs.Tokens.{Token}
+
+-- the number of a word among tokens: that of the first that is this word
+abbrev pub number_of : List Token → Text → ℕ
+number_of ts text = position_or_len (λ (t : Token). bytes_eq t.text text) ts
 
 -- the number that a table has for a word
 abbrev pub number_in : {S : Type 0} → HashMap (Bor Text) ℕ S → Text → Option ℕ

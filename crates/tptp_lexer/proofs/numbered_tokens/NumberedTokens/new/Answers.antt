@@ -1,6 +1,6 @@
 use Rattle.std.proofs.Common.{arith}
-use Rattle.tptp_grammar.proofs.Numbering.{few_tokens}
-use Rattle.tptp_grammar.proofs.marks.Marks.new.Goals as goal
+use Rattle.tptp_lexer.proofs.Numbering.{few_tokens}
+use Rattle.tptp_lexer.proofs.numbered_tokens.NumberedTokens.new.Goals as goal
 
 pub overflow_cast-number-end : goal.overflow_cast-number-end
 overflow_cast-number-end c =

@@ -1,5 +1,5 @@
 use Rattle.std.proofs.lemmas.Map.Text.{hash_map_updates_str}
-use Rattle.tptp_grammar.proofs.marks.numbered.Goals as goal
+use Rattle.tptp_lexer.proofs.numbered_tokens.numbered.Goals as goal
 
 pub returns-in_ok-insert-in-None-clause-noted : goal.returns-in_ok-insert-in-None-clause-noted
 returns-in_ok-insert-in-None-clause-noted c = λ text.

@@ -1,20 +1,18 @@
--- Names, terms and lists with commas: what is spelled is read.
+-- Names and lists with commas: what is spelled is read, and what is between brackets is taken apart.
 use Rattle.std.specs.Prelude.{◌≡◌, ◌≤◌, ℕ, zero, suc, true, false, if◌then◌else◌, List, [], ◌∷◌, ◌++◌, length, Some, None, refl}
 use Rattle.std.specs.Option.{option_and_then}
-use Rattle.std.proofs.Common.{ap, ◌∙◌, inl, inr, append_assoc, arith}
+use Rattle.std.proofs.Common.{ap, sym, ◌∙◌, inl, inr, append_assoc, arith}
 use Rattle.std.proofs.lemmas.List.{length-append}
-use Rattle.logic_core.specs.declared.formula.Term.TheVariants.{Variable, Constant}
 use Rattle.tptp_lexer.specs.declared.kind.Kind.{Kind}
 use Rattle.tptp_lexer.specs.declared.kind.Kind.TheVariants as kind
+use Rattle.tptp_lexer.specs.declared.reader.Naming.{Naming}
+use Rattle.tptp_lexer.specs.declared.reader.Naming.TheVariants as naming
+use Rattle.tptp_lexer.specs.Reading.{Read, behind, with_front, more_from, listed_from, closed_by, may_name, name_from, names_from}
+use Rattle.tptp_lexer.specs.Same.{same_kind}
+use Rattle.tptp_lexer.specs.Spelling.{IsNaming, SpellsName, SpellsVariable, SpellsMore, SpellsListed, SpellsBetween}
+use Rattle.tptp_lexer.specs.Spelling.SpellsMore.{none, more}
 use Rattle.tptp_lexer.specs.Tokens.{Token, name_of}
-use Rattle.tptp_grammar.specs.declared.name_reader.Naming.{Naming}
-use Rattle.tptp_grammar.specs.declared.name_reader.Naming.TheVariants as naming
-use Rattle.tptp_grammar.specs.Parts.{same_kind}
-use Rattle.tptp_grammar.specs.Reading.{Read, behind, with_front, more_from, listed_from, closed_by, may_name, name_from, names_from, term_at, term_from}
-use Rattle.tptp_grammar.specs.Spells.{IsWord, IsNaming, SpellsName, SpellsVariable, SpellsTerm, SpellsMore, SpellsListed, SpellsBetween, SpellsVariables}
-use Rattle.tptp_grammar.specs.Spells.SpellsMore.{none, more}
-use Rattle.tptp_grammar.proofs.ReaderSteps.{more-none, more-next}
-use Rattle.tptp_grammar.proofs.Endings.{behind-here, behind-other}
+use Rattle.tptp_lexer.proofs.Further.{behind-here, behind-other, more-none, more-next}
 
 -- a reader that reads what is spelled, whatever is behind it
 abbrev pub ReadsSpelled : {X : Type 0} → (X → List Token → Type 0) → (List Token → Read X) → Type 0
@@ -29,18 +27,6 @@ name_here wanted t rest may = ap (λ b. if b then Some (name_of t, rest) else No
 name_read : (wanted : Naming) (P : Token → Type 0) → ((t : Token) → P t → may_name wanted t.kind ≡ true) →
     ReadsSpelled (SpellsName P) (name_from wanted)
 name_read wanted P may x us rest s = let (t, is, name, split) = s in rw (split, name) (name_here wanted t rest (may t is))
-
--- a term that is spelled is read
-pub term_read : ReadsSpelled SpellsTerm term_from
-unfolding term_from
-term_read (Variable x) us rest s = let (t, is, name, split) = s in
-    rw (split, name) (ap (λ k. term_at k (name_of t) rest) is)
-term_read (Constant x) us rest s = let (t, is, name, split) = s in
-    rw (split, name) (by t is)
-  where
-    by : (t : Token) → IsWord t → term_at t.kind (name_of t) rest ≡ Some (Constant (name_of t), rest)
-    by t (inl is) = ap (λ k. term_at k (name_of t) rest) is
-    by t (inr is) = ap (λ k. term_at k (name_of t) rest) is
 
 -- a list behind a token is longer
 pub longer : {A : Type 0} (us vs : List A) (n : ℕ) → n ≤ length vs → suc n ≤ suc (length (us ++ vs))
@@ -124,10 +110,56 @@ naming_here t rest is = name_here naming.OfFormula t rest (naming_may t is)
 pub file_here : (t : Token) (rest : List Token) → t.kind ≡ kind.Quoted → name_from naming.OfFile (t ∷ rest) ≡ Some (name_of t, rest)
 file_here t rest is = name_here naming.OfFile t rest (file_may t is)
 
--- the variables of a quantifier
-pub variables_read : ReadsSpelled SpellsVariables (names_from naming.OfVariable)
+-- variables in square brackets are read
+pub variables_read : ReadsSpelled (SpellsBetween kind.OpenBracket kind.CloseBracket SpellsVariable) (names_from naming.OfVariable)
 variables_read xs us rest s = between_read SpellsVariable (name_from naming.OfVariable) variable_read kind.OpenBracket kind.CloseBracket refl xs us rest s
 
--- the names of a selection
+-- the names of formulas in square brackets are read
 pub selection_read : ReadsSpelled (SpellsBetween kind.OpenBracket kind.CloseBracket (SpellsName IsNaming)) (names_from naming.OfFormula)
 selection_read names us rest s = between_read (SpellsName IsNaming) (name_from naming.OfFormula) naming_read kind.OpenBracket kind.CloseBracket refl names us rest s
+
+-- values between brackets, from the first one and the further ones
+pub between_of : {X : Type 0} (before after : Kind) (spells : X → List Token → Type 0) (x : X) (xs : List X) (first last : Token)
+    (us vs : List Token) → first.kind ≡ before → spells x us → SpellsMore spells xs vs → last.kind ≡ after →
+    SpellsBetween before after spells (x ∷ xs) (first ∷ (us ++ (vs ++ (last ∷ []))))
+between_of before after spells x xs first last us vs o s rest c = record {
+  first = first;
+  inner = us ++ vs;
+  last = last;
+  opens = o;
+  listed = (us, vs, s, rest, refl);
+  closes = c;
+  split = ap (λ y. first ∷ y) (sym (append_assoc us vs (last ∷ [])));
+}
+
+-- a list between brackets, token by token
+pub record OpenedList {X : Type 0} {before after : Kind} {spells : X → List Token → Type 0} {x : X} {xs : List X} {us : List Token}
+    (between : SpellsBetween before after spells (x ∷ xs) us) : Type 0 where
+  pub front : List Token
+  pub back : List Token
+  pub value : spells x front
+  pub further : SpellsMore spells xs back
+  pub split : us ≡ between.first ∷ (front ++ (back ++ (between.last ∷ [])))
+
+-- what is between brackets opens as its first value and the further ones
+pub between_opens : {X : Type 0} {before after : Kind} {spells : X → List Token → Type 0} {x : X} {xs : List X} {us : List Token}
+    (between : SpellsBetween before after spells (x ∷ xs) us) → OpenedList between
+between_opens between =
+    let (front, back, first, later, inner) = between.listed in record {
+      front = front;
+      back = back;
+      value = first;
+      further = later;
+      split = between.split ∙ ap (λ ts. between.first ∷ ts)
+          (ap (λ ts. ts ++ (between.last ∷ [])) inner ∙ append_assoc front back (between.last ∷ []));
+    }
+
+-- what is between brackets, token by token, with further tokens behind it
+pub between_behind : {X : Type 0} {before after : Kind} {spells : X → List Token → Type 0} {x : X} {xs : List X} {us : List Token}
+    (between : SpellsBetween before after spells (x ∷ xs) us) (opened : OpenedList between) (ts : List Token) →
+    between.first ∷ (opened.front ++ (opened.back ++ (between.last ∷ ts))) ≡ us ++ ts
+between_behind between opened ts =
+    ap (λ vs. between.first ∷ vs)
+    (ap (λ vs. opened.front ++ vs) (sym (append_assoc opened.back (between.last ∷ []) ts)) ∙
+    sym (append_assoc opened.front (opened.back ++ (between.last ∷ [])) ts)) ∙
+    ap (λ vs. vs ++ ts) (sym opened.split)

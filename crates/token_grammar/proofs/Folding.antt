@@ -73,6 +73,7 @@ module _ {P T : Type 0} (shape : P → Shape T) where
 
   module _ (g : Grammar P T) (taken : (p : P) (t : T) → IsTrue (g.takes p t) → Fits (shape p) t)
       (made : (p : P) → EachLeads p (g.alternatives p)) where
+    -- what is spelled by a row has the properties of its members
     row_holds : {row : List P} {ts : List T} → Spelled g row ts → RowHolds row ts
     row_holds Spelled.none = refl
     row_holds (Spelled.token {p = p} {t = t} {ts = ts} h rest) =

@@ -1,7 +1,7 @@
 use Rattle.tptp_lexer.specs.declared.kind.Kind.TheVariants as kind
-use Rattle.tptp_grammar.specs.Reading.{name_from}
-use Rattle.tptp_grammar.proofs.ReaderSteps.{goes_on}
-use Rattle.tptp_grammar.proofs.name_reader.more_names.Goals as goal
+use Rattle.tptp_lexer.specs.Reading.{name_from}
+use Rattle.tptp_lexer.proofs.Further.{goes_on}
+use Rattle.tptp_lexer.proofs.reader.more_names.Goals as goal
 
 pub loop-preserved : goal.loop-preserved
 loop-preserved c =

@@ -1,7 +1,7 @@
 use Rattle.std.proofs.Common.{◌≡◌, [], ◌∷◌, ◌-◌, length}
 use Rattle.tptp_lexer.specs.declared.kind.Kind.TheVariants as kind
-use Rattle.tptp_grammar.specs.Reading.{name_from, with_front, more_from}
-use Rattle.tptp_grammar.proofs.name_reader.more_names.Given as goal
+use Rattle.tptp_lexer.specs.Reading.{name_from, with_front, more_from}
+use Rattle.tptp_lexer.proofs.reader.more_names.Given as goal
 
 -- the names so far are in front of those that are left
 abbrev pub invariant-loop : goal.invariant-loop

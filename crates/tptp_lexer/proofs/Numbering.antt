@@ -1,32 +1,24 @@
--- The mark of a token, and the numbers of upper words from token to token.
-use Rattle.std.proofs.Common.{◌≡◌, ℕ, zero, suc, ◌+◌, ◌<◌, ◌≤◌, Bool, true, false, cond, not, List, [], ◌∷◌, length, take, slice_get, position, Option, Some, None, is_some, unwrap_or, refl, sym, ap, ◌∙◌, arith}
+-- The numbers of upper words from token to token, and that a number tells its word.
+use Rattle.std.proofs.Common.{◌≡◌, ℕ, zero, suc, ◌+◌, ◌<◌, ◌≤◌, Bool, true, false, cond, not, List, [], ◌∷◌, length, take, slice_get, position, Option, Some, None, is_some, unwrap_or, refl, sym, ap, ◌∙◌, inl, inr, arith}
 use Rattle.std.proofs.lemmas.Bool.Decides.{nat_tests}
 use Rattle.std.proofs.lemmas.List.{length-append, length-take-le}
 use Rattle.std.proofs.lemmas.List.Folds.{position_or_len_push}
 use Rattle.std.proofs.lemmas.List.Sums.{prefix_len-le-length}
-use Rattle.std.proofs.lemmas.Option.{none-some, same_Some, slice_get-map, slice_get_within}
+use Rattle.std.proofs.lemmas.Option.{none-some, same_Some, slice_get_within}
+use Rattle.std.proofs.lemmas.Slice.Eq.{bytes_eq-Decides}
 use Rattle.std.specs.Cmp.Lexicographic.{bytes_decides, nat_list_eq_equiv}
 use Rattle.std.specs.List.{position_or_len}
-use Rattle.std.specs.Option.{option_map}
+use Rattle.std.specs.Prelude.{IsSomeAnd}
 use Rattle.std.specs.Str.{bytes_eq}
+use Rattle.text_core.specs.Lists.{IsAmong}
 use Rattle.text_core.specs.Names.{Text}
 use Rattle.text_core.proofs.Laws.{take_next}
 use Rattle.tptp_lexer.specs.declared.kind.Kind.{Kind}
 use Rattle.tptp_lexer.specs.declared.kind.Kind.TheVariants.{Upper}
 use Rattle.tptp_lexer.specs.Kinds.{kind_of}
+use Rattle.tptp_lexer.specs.Numbering.{number_of, AreNumbers}
 use Rattle.tptp_lexer.specs.Tokens.{Token, Reads, stop, blank, comment, token, IsEnd, AreTokens}
-use Rattle.tptp_lexer.specs.Columns.{kinds_of, texts_of}
-use Rattle.tptp_lexer.proofs.Laws.{empty_kind}
-use Rattle.tptp_grammar.specs.declared.mark.Mark.TheVariants.{Upper as UpperMark}
-use Rattle.tptp_grammar.specs.Marks.{marked, mark_in, marks_of, number_of}
-use Rattle.tptp_grammar.specs.Numbering.{AreNumbers}
-
--- the token of a number, from the kind and the text that are there
-token_at : (ts : List Token) (n : ℕ) (kind : Kind) (text : Text) → slice_get (kinds_of ts) n ≡ Some kind →
-    slice_get (texts_of ts) n ≡ Some text → (t : Token) × (slice_get ts n ≡ Some t) × (t.kind ≡ kind) × (t.text ≡ text)
-token_at [] n kind text k x = absurd (none-some _ k)
-token_at (t ∷ ts) zero kind text k x = (t, refl, same_Some _ _ k, same_Some _ _ x)
-token_at (t ∷ ts) (suc n) kind text k x = token_at ts n kind text k x
+use Rattle.tptp_lexer.proofs.Heads.{empty_kind}
 
 -- the first element that passes is among those up to one that passes
 position_or_len_front : {X : Type 0} (p : X → Bool) (xs : List X) (n : ℕ) (x : X) → slice_get xs n ≡ Some x → p x ≡ true →
@@ -79,62 +71,67 @@ comes p xs n x h passes = let o = position p (take n xs) in
 abbrev spells : Text → Token → Bool
 spells word t = bytes_eq t.text word
 
-module _ (ts : List Token) (n : ℕ) (kind : Kind) (text : Text) (k : slice_get (kinds_of ts) n ≡ Some kind)
-    (x : slice_get (texts_of ts) n ≡ Some text) where
-  -- the mark of the token there
-  pub mark_there : slice_get (marks_of ts) n ≡ Some (marked ts kind text)
-  mark_there = let t = token_at ts n kind text k x in
-      slice_get-map (mark_in ts) ts n ∙ ap (option_map (mark_in ts)) t.1 ∙ (λ i. Some (marked ts (t.2 i) (t.3 i)))
-
+module _ (ts : List Token) (n : ℕ) (t : Token) (kind : Kind) (text : Text) (there : slice_get ts n ≡ Some t) (k : kind ≡ t.kind)
+    (x : text ≡ t.text) (its : kind_of t.text ≡ Some t.kind) where
   -- the token there is a word or is not
-  spells_there : (word : Text) (b : Bool) → bytes_eq text word ≡ b →
-      (t : Token) × (slice_get ts n ≡ Some t) × (spells word t ≡ b)
-  spells_there word b e = let t = token_at ts n kind text k x in (t.0, t.1, ap (λ bs. bytes_eq bs word) t.3 ∙ e)
+  spells_there : (word : Text) (b : Bool) → bytes_eq text word ≡ b → spells word t ≡ b
+  spells_there word b e = ap (λ bs. bytes_eq bs word) (sym x) ∙ e
+
+  -- a word that is this text has the kind
+  kind_there : (word : Text) → bytes_eq text word ≡ true → kind_of word ≡ Some kind
+  kind_there word e = ap kind_of (sym ((bytes_decides text word).0 e) ∙ x) ∙ its ∙ ap Some (sym k)
 
   -- an upper word has its number
-  number_there : (number : Text → Option ℕ) → kind_of text ≡ Some Upper → AreNumbers ts number →
-      unwrap_or (number text) 0 ≡ number_of ts text
-  number_there number upper are =
-      let t = spells_there text true (nat_list_eq_equiv.refl text) in
-      ap (λ o. unwrap_or o 0) (are text upper) ∙ position_is (spells text) ts n t.0 t.1 t.2
+  pub word_numbered : (number : Text → Option ℕ) → IsSomeAnd (slice_get ts n) (λ t. t.kind ≡ Upper) → AreNumbers ts number →
+      (given : ℕ) → given ≡ unwrap_or (number text) 0 → IsSomeAnd (slice_get ts n) (λ t. given ≡ number_of ts t.text)
+  word_numbered number wanted are given is =
+      let upper : t.kind ≡ Upper = rw there at wanted in
+      rw there
+      (is ∙ (ap (λ bs. unwrap_or (number bs) 0) x ∙ (ap (λ o. unwrap_or o 0) (are t.text (its ∙ ap Some upper)) ∙
+      position_is (spells t.text) ts n t there (nat_list_eq_equiv.refl t.text))))
 
-  -- the numbers stay at a word of another kind
-  pub numbers_stay : (number : Text → Option ℕ) → slice_get (kinds_of ts) n ≡ kind_of text → (kind ≡ Upper → ⊥) →
+  -- the numbers stay at a token of another kind
+  pub numbers_stay : (number : Text → Option ℕ) → (kind ≡ Upper → ⊥) →
       AreNumbers (take n ts) number → AreNumbers (take (n + 1) ts) number
-  numbers_stay number its other before word upper = by (bytes_eq text word) refl
+  numbers_stay number other before word upper = by (bytes_eq text word) refl
     where
       by : (b : Bool) → bytes_eq text word ≡ b → number word ≡ position (spells word) (take (n + 1) ts)
-      by true e = absurd (other (same_Some _ _ (sym k ∙ its ∙ ap kind_of ((bytes_decides text word).0 e) ∙ upper)))
-      by false e = let t = spells_there word false e in before word upper ∙ sym (stays (spells word) ts n t.0 t.1 t.2)
+      by true e = absurd (other (same_Some _ _ (sym (kind_there word e) ∙ upper)))
+      by false e = before word upper ∙ sym (stays (spells word) ts n t there (spells_there word false e))
 
--- an upper word's mark has its number
-pub upper_mark : (ts : List Token) (n : ℕ) (text : Text) → slice_get (kinds_of ts) n ≡ Some Upper →
-    slice_get (texts_of ts) n ≡ Some text → slice_get (kinds_of ts) n ≡ kind_of text → (number : Text → Option ℕ) →
-    AreNumbers ts number → (given : ℕ) → given ≡ unwrap_or (number text) 0 →
-    slice_get (marks_of ts) n ≡ Some (UpperMark given)
-upper_mark ts n text k x its number are given is =
-    let same = is ∙ number_there ts n Upper text k x number (sym its ∙ k) are in
-    mark_there ts n Upper text k x ∙ ap (λ m. Some (UpperMark m)) (sym same)
+  -- the numbers with one upper word more
+  pub numbers_grow : (number later : Text → Option ℕ) → AreNumbers (take n ts) number → (given : ℕ) →
+      given ≡ unwrap_or (number text) n →
+      ((word : Text) → later word ≡ cond (bytes_eq text word) (Some given) (number word)) → AreNumbers (take (n + 1) ts) later
+  numbers_grow number later before given is noted word upper = by (bytes_eq text word) refl
+    where
+      at_word : (b : Bool) → bytes_eq text word ≡ b → later word ≡ cond b (Some given) (number word)
+      at_word b e = noted word ∙ ap (λ c. cond c (Some given) (number word)) e
 
--- the numbers with one upper word more
-pub numbers_grow : (ts : List Token) (n : ℕ) (text : Text) → slice_get (kinds_of ts) n ≡ Some Upper →
-    slice_get (texts_of ts) n ≡ Some text → (number later : Text → Option ℕ) → AreNumbers (take n ts) number → (given : ℕ) →
-    given ≡ unwrap_or (number text) n →
-    ((word : Text) → later word ≡ cond (bytes_eq text word) (Some given) (number word)) → AreNumbers (take (n + 1) ts) later
-numbers_grow ts n text k x number later before given is noted word upper = by (bytes_eq text word) refl
-  where
-    at_word : (b : Bool) → bytes_eq text word ≡ b → later word ≡ cond b (Some given) (number word)
-    at_word b e = noted word ∙ ap (λ c. cond c (Some given) (number word)) e
+      by : (b : Bool) → bytes_eq text word ≡ b → later word ≡ position (spells word) (take (n + 1) ts)
+      by true e =
+          let same = (bytes_decides text word).0 e in
+          at_word true e ∙ ap Some (is ∙ ap (λ o. unwrap_or o n) (ap number same ∙ before word upper))
+          ∙ sym (comes (spells word) ts n t there (spells_there word true e))
+      by false e = at_word false e ∙ before word upper ∙ sym (stays (spells word) ts n t there (spells_there word false e))
 
-    by : (b : Bool) → bytes_eq text word ≡ b → later word ≡ position (spells word) (take (n + 1) ts)
-    by true e =
-        let t = spells_there ts n Upper text k x word true e in
-        let same = (bytes_decides text word).0 e in
-        at_word true e ∙ ap Some (is ∙ ap (λ o. unwrap_or o n) (ap number same ∙ before word upper))
-        ∙ sym (comes (spells word) ts n t.0 t.1 t.2)
-    by false e =
-        let t = spells_there ts n Upper text k x word false e in
-        at_word false e ∙ before word upper ∙ sym (stays (spells word) ts n t.0 t.1 t.2)
+module _ (t u : Token) (ts : List Token) (x : Text) where
+  -- what the tests of the first token tell
+  told : (a b : Bool) → bytes_eq u.text t.text ≡ a → bytes_eq u.text x ≡ b →
+      (IsAmong t ts → number_of ts t.text ≡ number_of ts x → t.text ≡ x) → IsAmong t (u ∷ ts) →
+      cond (not a) (1 + number_of ts t.text) 0 ≡ cond (not b) (1 + number_of ts x) 0 → t.text ≡ x
+  told true true d e later among same = sym ((bytes_eq-Decides u.text t.text).0 d) ∙ (bytes_eq-Decides u.text x).0 e
+  told true false d e later among same = absurd (omega arith)
+  told false true d e later among same = absurd (omega arith)
+  told false false d e later (inl here) same =
+      let true_too = (bytes_eq-Decides u.text t.text).1 (ap (λ (v : Token). v.text) here) in absurd (cc)
+  told false false d e later (inr among) same = later among (omega arith)
+
+-- the number of a word among tokens tells the word, where a token is this word
+pub number_of_same : (ts : List Token) (t : Token) (x : Text) → IsAmong t ts → number_of ts t.text ≡ number_of ts x → t.text ≡ x
+number_of_same [] t x among same = absurd among
+number_of_same (u ∷ ts) t x among same =
+    told t u ts x (bytes_eq u.text t.text) (bytes_eq u.text x) refl refl (number_of_same ts t x) among same
 
 -- a token has a byte
 has_byte : (kind : Kind) (text : Text) → kind_of text ≡ Some kind → 0 < length text
