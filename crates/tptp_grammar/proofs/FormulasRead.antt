@@ -18,7 +18,7 @@ use Rattle.tptp_grammar.specs.Spells.SpellsFormula.{alone, chain, binary}
 use Rattle.tptp_grammar.specs.Spells.SpellsRest.{end, further}
 use Rattle.tptp_grammar.specs.Spells.SpellsUnitary.{brackets, negation, quantified, truth, atom, equation, inequality}
 use Rattle.tptp_grammar.proofs.ReaderSteps.{below_is, inside_is, unit_is}
-use Rattle.tptp_lexer.proofs.Laws.{more-none, more-next, behind-here, longer}
+use Rattle.tptp_lexer.proofs.Laws.{more-none, more-next, behind-here, length_behind}
 use Rattle.tptp_grammar.proofs.Endings.{ends_unit, ends_formula, Ends, ends_at, formula_ends_unit, formula-alone, ampersand-none, bar-none}
 use Rattle.tptp_grammar.proofs.UnitsRead.{brackets_read, negation_read, quantified_read, truth_read, atom_read, equation_read, inequality_read}
 
@@ -61,7 +61,7 @@ op_ends op.Nand = refl
 -- each further member takes a token
 rest_few : {k : Kind} {level : ℕ} {gs : List Formula} {us : List Token} → SpellsRest k level gs us → length gs ≤ length us
 rest_few end = omega arith
-rest_few (further {gs = gs} before us vs is s later split) = rw split (longer us vs (length gs) (rest_few later))
+rest_few (further {gs = gs} before us vs is s later split) = rw split (length_behind us vs (length gs) (rest_few later))
 
 -- a chain begins with its own token
 chain_begins : {k : Kind} {level : ℕ} {g : Formula} {gs : List Formula} {us : List Token} → SpellsRest k level (g ∷ gs) us →
