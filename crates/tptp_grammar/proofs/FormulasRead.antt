@@ -65,8 +65,8 @@ rest_few (further {gs = gs} before us vs is s later split) = rw split (length_be
 
 -- a chain begins with its own token
 chain_begins : {k : Kind} {level : ℕ} {g : Formula} {gs : List Formula} {us : List Token} → SpellsRest k level (g ∷ gs) us →
-    (t : Token) × (ts : List Token) × (t.kind ≡ k) × (us ≡ t ∷ ts)
-chain_begins (further before us vs is s later split) = (before, us ++ vs, is, split)
+    (t : Token) × (t.kind ≡ k) × ((ts : List Token) × (us ≡ t ∷ ts))
+chain_begins (further before us vs is s later split) = (before, is, (us ++ vs, split))
 
 -- a chain ends the unit before it
 rest_ends : {k : Kind} {level : ℕ} {gs : List Formula} {us : List Token} → SpellsRest k level gs us → (rest : List Token) →
@@ -92,11 +92,11 @@ chain_none disjunction ts ends = bar-none ts ends
 
 -- a chain that is spelled is read, where its members are
 chain_read : (depth : ℕ) (c : Chain) (g : Formula) (hs : List Formula) (us vs all rest : List Token) →
-    (t : Token) × (ts : List Token) × (t.kind ≡ chain_kind c) × (vs ≡ t ∷ ts) → all ≡ us ++ vs →
+    (t : Token) × (t.kind ≡ chain_kind c) × ((ts : List Token) × (vs ≡ t ∷ ts)) → all ≡ us ++ vs →
     unit_at depth (us ++ (vs ++ rest)) ≡ Some (g, vs ++ rest) →
     more_from (unit_at depth) (chain_kind c) (length (vs ++ rest)) (vs ++ rest) ≡ Some (hs, rest) →
     formula_at depth (all ++ rest) ≡ Some (chain_of c (g ∷ hs), rest)
-chain_read depth c g hs us vs all rest begins split one others = let (t, ts, is, front) = begins in
+chain_read depth c g hs us vs all rest begins split one others = let (t, is, (ts, front)) = begins in
     rw (split, append_assoc us vs rest)
     (unit_first depth g (us ++ (vs ++ rest)) (vs ++ rest) one ∙ rw front (rest_kind (unit_at depth) (chain_kind c) g t (ts ++ rest) is ∙
     (rest_chain (unit_at depth) c g t (ts ++ rest) ∙ ap (reread (λ gs. chain_of c (g ∷ gs))) (rw front at others))))
