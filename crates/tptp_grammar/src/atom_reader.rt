@@ -28,10 +28,7 @@ impl Reads for Terms {
 
 /// A term.
 #[tactic(auto, unfolding(crate::specs::Reading::term_from))]
-fn term<'t, 'a>(
-    alloc: Global,
-    cursor: &Cursor<'t, 'a>,
-) -> Result<(Term, Cursor<'t, 'a>), NotRead>
+fn term<'t, 'a>(alloc: Global, cursor: &Cursor<'t, 'a>) -> Result<(Term, Cursor<'t, 'a>), NotRead>
     ensures { Gives (λ read. read) result (term_from cursor.now) }
 {
     let Some((token, rest)) = cursor.next() else {

@@ -110,11 +110,7 @@ impl<'t, 'a> Cursor<'t, 'a> {
     /// A name and what is left behind it. `NoText` where the first token is no such name, or there
     /// is none.
     #[tactic(auto, unfolding(crate::specs::Reading::name_from))]
-    pub fn name(
-        &self,
-        alloc: Global,
-        naming: Naming,
-    ) -> Result<(Name, Cursor<'t, 'a>), NotRead>
+    pub fn name(&self, alloc: Global, naming: Naming) -> Result<(Name, Cursor<'t, 'a>), NotRead>
         ensures { Gives (λ read. read) result (name_from naming self.now) }
     {
         match self.next() {
