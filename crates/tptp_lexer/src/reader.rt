@@ -18,7 +18,7 @@ pub enum NotRead {
     Memory,
 }
 
-/// What a name is for, which tells the kinds of tokens that may spell it.
+/// What a name is for, which tells the kinds of tokens that may spell it. Source: the TPTP syntax.
 #[derive(Clone, Copy, Debug)]
 pub enum Naming {
     /// A variable: an upper word.
@@ -36,7 +36,8 @@ pub trait Reads {
 
     ghost from: { Self → Lst Token → Read Self.Value };
 
-    /// A value and what is left behind it. `NoText` where the tokens begin with none.
+    /// A value and what is left behind it. `NoText` where the tokens begin with none, `Memory` for
+    /// want of memory.
     fn read<'t, 'a>(
         &self,
         alloc: Global,
@@ -68,7 +69,7 @@ impl From<AllocError> for NotRead {
 }
 
 impl Kind {
-    /// Whether the two kinds are the same.
+    /// Whether the two kinds are the same, as `==`, told to contracts by `same_kind`.
     pub fn is(self, other: Kind) -> bool
         ensures { result ≡ same_kind self other }
     {
@@ -108,7 +109,7 @@ impl<'t, 'a> Cursor<'t, 'a> {
     }
 
     /// A name and what is left behind it. `NoText` where the first token is no such name, or there
-    /// is none.
+    /// is none, `Memory` for want of memory.
     #[tactic(auto, unfolding(crate::specs::Reading::name_from))]
     pub fn name(&self, alloc: Global, naming: Naming) -> Result<(Name, Cursor<'t, 'a>), NotRead>
         ensures { Gives (λ read. read) result (name_from naming self.now) }
@@ -122,7 +123,8 @@ impl<'t, 'a> Cursor<'t, 'a> {
     }
 
     /// One or more values with a comma between each two, and a token of the kind `close`, with what
-    /// is left behind it. `NoText` where the tokens do not begin with such a list.
+    /// is left behind it. `NoText` where the tokens do not begin with such a list, `Memory` for want
+    /// of memory.
     pub fn listed<R: Reads>(
         &self,
         alloc: Global,
@@ -138,7 +140,7 @@ impl<'t, 'a> Cursor<'t, 'a> {
     }
 
     /// Names in square brackets, with a comma between each two, and what is left behind them.
-    /// `NoText` where the tokens do not begin with such a list.
+    /// `NoText` where the tokens do not begin with such a list, `Memory` for want of memory.
     pub fn names(
         &self,
         alloc: Global,
