@@ -15,28 +15,33 @@ use Rattle.token_grammar.specs.Acting.Acted.{ended, token, passed, replaced}
 module _ {P T B : Type 0} (g : Grammar P T) (Value : P → Type 0) (making : Making g Value) (takes : P → T → B → B) (passes : P → B → B)
     (effect : (p : P) → Value p → B → B) (building : IsBuilding g Value making takes passes effect) where
   -- values of joined rows, split where the rows are joined
-  SplitValues : (front back : List P) → RowValues Value (front ++ back) → List T → Type 0
-  SplitValues front back values ts = (first : RowValues Value front) × (second : RowValues Value back) × (us : List T) × (vs : List T) ×
-      SpelledRow g Value making front first us × SpelledRow g Value making back second vs × (ts ≡ us ++ vs) ×
-      ((b : B) → after_members Value effect (front ++ back) values b ≡
-      after_members Value effect back second (after_members Value effect front first b))
+  record SplitValues (front back : List P) (values : RowValues Value (front ++ back)) (ts : List T) : Type 0 where
+    firsts : RowValues Value front
+    seconds : RowValues Value back
+    us : List T
+    vs : List T
+    first : SpelledRow g Value making front firsts us
+    second : SpelledRow g Value making back seconds vs
+    split : ts ≡ us ++ vs
+    after : (b : B) → after_members Value effect (front ++ back) values b ≡
+        after_members Value effect back seconds (after_members Value effect front firsts b)
 
   -- the values of joined rows are split where the rows are joined
   split_values : (front back : List P) (values : RowValues Value (front ++ back)) (ts : List T) →
       SpelledRow g Value making (front ++ back) values ts → SplitValues front back values ts
-  unfolding SplitValues
-  split_values [] back values ts spelled = (tt, values, [], ts, none, spelled, refl, λ b. refl)
-  split_values (p ∷ front) back values ts (member us rest first later e) =
-      let (firsts, second, middle, vs, front_spelled, back_spelled, split, after) = split_values front back values.1 rest later in (
-        (values.0, firsts),
-        second,
-        us ++ middle,
-        vs,
-        member us middle first front_spelled refl,
-        back_spelled,
-        (e ∙ ap (λ x. us ++ x) split) ∙ sym (append_assoc us middle vs),
-        λ b. after (effect p values.0 b),
-      )
+  split_values [] back values ts spelled =
+      record { firsts = tt; seconds = values; us = []; vs = ts; first = none; second = spelled; split = refl; after = λ b. refl }
+  split_values (p ∷ front) back values ts (member us rest value later e) =
+      let it = split_values front back values.1 rest later in record {
+        firsts = (values.0, it.firsts);
+        seconds = it.seconds;
+        us = us ++ it.us;
+        vs = it.vs;
+        first = member us it.us value it.first refl;
+        second = it.second;
+        split = (e ∙ ap (λ x. us ++ x) it.split) ∙ sym (append_assoc us it.us it.vs);
+        after = λ b. it.after (effect p values.0 b);
+      }
 
   -- the value of a part that stands for a row
   BuiltPart : (p : P) → List T → B → B → Type 0
@@ -76,12 +81,13 @@ module _ {P T B : Type 0} (g : Grammar P T) (Value : P → Type 0) (making : Mak
   -- a part that was replaced by a row with members has a value
   built_replaced : (p q : P) (rest row : List P) (ts : List T) (before after : B) → IsAmong (q ∷ rest) (g.alternatives p) →
       BuiltRow (q ∷ (rest ++ row)) before ts after → BuiltRow (p ∷ row) before ts after
-  unfolding BuiltRow SplitValues
+  unfolding BuiltRow
   built_replaced p q rest row ts before after among (values, spelled, e) =
-      let (first, second, us, vs, front, back, split, members) = split_values (q ∷ rest) row values ts spelled in
-      let part = built_part p (q ∷ rest) among first us before front in
-      subst (λ x. BuiltRow (p ∷ row) before x after) (sym split)
-      (built_more p row us vs before (after_members Value effect (q ∷ rest) first before) after part (second, back, e ∙ members before))
+      let it = split_values (q ∷ rest) row values ts spelled in
+      let part = built_part p (q ∷ rest) among it.firsts it.us before it.first in
+      subst (λ x. BuiltRow (p ∷ row) before x after) (sym it.split)
+      (built_more p row it.us it.vs before (after_members Value effect (q ∷ rest) it.firsts before) after part
+      (it.seconds, it.second, e ∙ it.after before))
 
   -- what was done over tokens is the effect of the values of a row
   built_row : {row : List P} {ts : List T} {before after : B} → Acted g takes passes row before ts after → BuiltRow row before ts after

@@ -10,6 +10,7 @@ pub mod Agreement
 pub mod Answered
 pub mod Refused
 pub mod Translated
+pub mod Becoming
 pub mod OfValues
 pub mod OneValue
 pub mod Telling

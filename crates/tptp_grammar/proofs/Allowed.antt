@@ -62,9 +62,9 @@ nesting-Binary : (op : Op) (g h : Formula) → nesting (Binary op g h) ≡ max (
 nesting-Binary op g h = ap nesting (Binary_opens op g h)
 
 -- the deepest of a row, from its first member on
-greatest : (g : Formula) (gs : List Formula) → greatest_depth (row_of (g ∷ gs)) ≡ max (depth g) (greatest_depth (row_of gs))
+greatest_depth-row : (g : Formula) (gs : List Formula) → greatest_depth (row_of (g ∷ gs)) ≡ max (depth g) (greatest_depth (row_of gs))
 unfolding row_of
-greatest g gs = refl
+greatest_depth-row g gs = refl
 
 -- an empty row is not too deep
 none_within : (level : ℕ) → level ≤ MOST_LEVELS → greatest_depth (row_of []) + level ≤ MOST_LEVELS
@@ -76,7 +76,7 @@ mutual
   formula_within : {level : ℕ} {f : Formula} {ts : List Token} → SpellsFormula level f ts → level ≤ MOST_LEVELS → nesting f + level ≤ MOST_LEVELS
   formula_within (alone {f = f} s) low = let less = shallower f in let within = unitary_within s low in omega arith
   formula_within (chain c g h gs us vs s rest is split) low =
-      let made = ap nesting is in let opened = nesting-chain c (g ∷ h ∷ gs) in let all = greatest g (h ∷ gs) in
+      let made = ap nesting is in let opened = nesting-chain c (g ∷ h ∷ gs) in let all = greatest_depth-row g (h ∷ gs) in
       let first = unitary_within s low in let others = rest_within rest low in omega arith
   formula_within (binary o g h us between vs s k r is split) low =
       let made = ap nesting is in let opened = nesting-Binary o g h in
@@ -87,7 +87,7 @@ mutual
       greatest_depth (row_of gs) + level ≤ MOST_LEVELS
   rest_within {level = level} end low = none_within level low
   rest_within (further {g = g} {gs = gs} before us vs k s rest split) low =
-      let all = greatest g gs in let first = unitary_within s low in let others = rest_within rest low in omega arith
+      let all = greatest_depth-row g gs in let first = unitary_within s low in let others = rest_within rest low in omega arith
 
   -- a unit formula is not too deep
   unitary_within : {level : ℕ} {f : Formula} {ts : List Token} → SpellsUnitary level f ts → level ≤ MOST_LEVELS → depth f + level ≤ MOST_LEVELS

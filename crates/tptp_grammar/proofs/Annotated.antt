@@ -15,6 +15,7 @@ use Rattle.tptp_grammar.proofs.Single.{takes_other, token_of, word_of, plain_of}
 
 module _ (all : List Token) (scope : List Text) where
   mutual
+    -- a general term
     pub general_watched : {level : ℕ} {us : List Token} → IsGeneral level us →
         Watching all (parts.General level ∷ []) level level us scope scope (Unit {0})
     general_watched {us = us} (data_alone datum) =
@@ -26,6 +27,7 @@ module _ (all : List Token) (scope : List Text) where
         (chosen all (inr (inl refl)) (right all (token_of all kind.Colon colon refl mark) (general_watched general)))))
     general_watched (in_list list) = chosen all (inr (inl refl)) (general_list_watched list)
 
+    -- a list of general terms
     pub general_list_watched : {level : ℕ} {us : List Token} → IsGeneralList level us →
         Watching all (parts.List level ∷ []) level level us scope scope (Unit {0})
     general_list_watched (empty_list {level = level} first last below opens closes split) =
@@ -41,6 +43,7 @@ module _ (all : List Token) (scope : List Text) where
         (chosen all (inr (inl refl)) (right all (general_watched general) (right all (generals_watched generals)
         (token_of all kind.CloseBracket last refl closes)))))))
 
+    -- further general terms
     generals_watched : {level : ℕ} {us : List Token} → AreGenerals level us →
         Watching all (parts.GeneralsRest level ∷ []) level level us scope scope (Unit {0})
     generals_watched no_general = chosen all (inl refl) (nothing all)
@@ -49,6 +52,7 @@ module _ (all : List Token) (scope : List Text) where
         (chosen all (inr (inl refl)) (right all (token_of all kind.Comma comma refl mark)
         (right all (general_watched general) (generals_watched generals))))
 
+    -- data
     data_watched : {level : ℕ} {us : List Token} → IsData level us →
         Watching all (parts.Data level ∷ []) level level us scope scope (Unit {0})
     data_watched (plain t kinds split) = respelled all (sym split) (chosen all (inl refl) (plain_of all t kinds))

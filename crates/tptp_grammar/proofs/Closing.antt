@@ -24,31 +24,31 @@ filter_all p (x ∷ xs) all =
     rw (All-head (λ y. p y ≡ true) x xs all) (ap (λ ys. x ∷ ys) (filter_all p xs (All-tail (λ y. p y ≡ true) x xs all)))
 
 -- the last member of a reversed list, kept or not
-seam : {X : Type 0} (p : X → Bool) (x : X) (ys : List X) (passes : Bool) →
+reverse-kept : {X : Type 0} (p : X → Bool) (x : X) (ys : List X) (passes : Bool) →
     reverse ys ++ cond passes (x ∷ []) [] ≡ reverse (cond passes (x ∷ ys) ys)
-seam p x ys true = sym (reverse-append (x ∷ []) ys)
-seam p x ys false = append-nil (reverse ys)
+reverse-kept p x ys true = sym (reverse-append (x ∷ []) ys)
+reverse-kept p x ys false = append-nil (reverse ys)
 
 -- the filter of a reversed list is the reversed filter
 filter-reverse : {X : Type 0} (p : X → Bool) (xs : List X) → filter p (reverse xs) ≡ reverse (filter p xs)
 filter-reverse p [] = refl
 filter-reverse p (x ∷ xs) =
     ap (filter p) (reverse-append (x ∷ []) xs) ∙ (filter-append p (reverse xs) (x ∷ []) ∙
-    (ap (λ ys. ys ++ filter p (x ∷ [])) (filter-reverse p xs) ∙ seam p x (filter p xs) (p x)))
+    (ap (λ ys. ys ++ filter p (x ∷ [])) (filter-reverse p xs) ∙ reverse-kept p x (filter p xs) (p x)))
 
 -- two tests in another order
-either : (a b : Bool) → (b || (a || false)) ≡ (a || b)
-either true true = refl
-either true false = refl
-either false true = refl
-either false false = refl
+or-swapped : (a b : Bool) → (b || (a || false)) ≡ (a || b)
+or-swapped true true = refl
+or-swapped true false = refl
+or-swapped false true = refl
+or-swapped false false = refl
 
 -- some member of a reversed list passes where some of the list does
 list_any-reverse : {X : Type 0} (p : X → Bool) (xs : List X) → list_any p (reverse xs) ≡ list_any p xs
 list_any-reverse p [] = refl
 list_any-reverse p (x ∷ xs) =
     ap (list_any p) (reverse-append (x ∷ []) xs) ∙ (list_any-append p (reverse xs) (x ∷ []) ∙
-    (ap (λ b. b || (p x || false)) (list_any-reverse p xs) ∙ either (p x) (list_any p xs)))
+    (ap (λ b. b || (p x || false)) (list_any-reverse p xs) ∙ or-swapped (p x) (list_any p xs)))
 
 -- what is used is bound, or it is not
 pub used_bound : (number : ℕ) (now bindings : List Binding) (bound : Bool) → reverse now ≡ bindings →

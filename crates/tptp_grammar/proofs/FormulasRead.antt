@@ -18,7 +18,7 @@ use Rattle.tptp_grammar.specs.Spells.SpellsFormula.{alone, chain, binary}
 use Rattle.tptp_grammar.specs.Spells.SpellsRest.{end, further}
 use Rattle.tptp_grammar.specs.Spells.SpellsUnitary.{brackets, negation, quantified, truth, atom, equation, inequality}
 use Rattle.tptp_grammar.proofs.ReaderSteps.{below_is, inside_is, unit_is}
-use Rattle.tptp_lexer.proofs.Laws.{more-none, more-next, behind-here, longer}
+use Rattle.tptp_lexer.proofs.Laws.{more-none, more-next, behind-here, length_behind}
 use Rattle.tptp_grammar.proofs.Endings.{ends_unit, ends_formula, Ends, ends_at, formula_ends_unit, formula-alone, ampersand-none, bar-none}
 use Rattle.tptp_grammar.proofs.UnitsRead.{brackets_read, negation_read, quantified_read, truth_read, atom_read, equation_read, inequality_read}
 
@@ -61,12 +61,12 @@ op_ends op.Nand = refl
 -- each further member takes a token
 rest_few : {k : Kind} {level : ℕ} {gs : List Formula} {us : List Token} → SpellsRest k level gs us → length gs ≤ length us
 rest_few end = omega arith
-rest_few (further {gs = gs} before us vs is s later split) = rw split (longer us vs (length gs) (rest_few later))
+rest_few (further {gs = gs} before us vs is s later split) = rw split (length_behind us vs (length gs) (rest_few later))
 
 -- a chain begins with its own token
 chain_begins : {k : Kind} {level : ℕ} {g : Formula} {gs : List Formula} {us : List Token} → SpellsRest k level (g ∷ gs) us →
-    (t : Token) × (ts : List Token) × (t.kind ≡ k) × (us ≡ t ∷ ts)
-chain_begins (further before us vs is s later split) = (before, us ++ vs, is, split)
+    (t : Token) × (t.kind ≡ k) × ((ts : List Token) × (us ≡ t ∷ ts))
+chain_begins (further before us vs is s later split) = (before, is, (us ++ vs, split))
 
 -- a chain ends the unit before it
 rest_ends : {k : Kind} {level : ℕ} {gs : List Formula} {us : List Token} → SpellsRest k level gs us → (rest : List Token) →
@@ -92,11 +92,11 @@ chain_none disjunction ts ends = bar-none ts ends
 
 -- a chain that is spelled is read, where its members are
 chain_read : (depth : ℕ) (c : Chain) (g : Formula) (hs : List Formula) (us vs all rest : List Token) →
-    (t : Token) × (ts : List Token) × (t.kind ≡ chain_kind c) × (vs ≡ t ∷ ts) → all ≡ us ++ vs →
+    (t : Token) × (t.kind ≡ chain_kind c) × ((ts : List Token) × (vs ≡ t ∷ ts)) → all ≡ us ++ vs →
     unit_at depth (us ++ (vs ++ rest)) ≡ Some (g, vs ++ rest) →
     more_from (unit_at depth) (chain_kind c) (length (vs ++ rest)) (vs ++ rest) ≡ Some (hs, rest) →
     formula_at depth (all ++ rest) ≡ Some (chain_of c (g ∷ hs), rest)
-chain_read depth c g hs us vs all rest begins split one others = let (t, ts, is, front) = begins in
+chain_read depth c g hs us vs all rest begins split one others = let (t, is, (ts, front)) = begins in
     rw (split, append_assoc us vs rest)
     (unit_first depth g (us ++ (vs ++ rest)) (vs ++ rest) one ∙ rw front (rest_kind (unit_at depth) (chain_kind c) g t (ts ++ rest) is ∙
     (rest_chain (unit_at depth) c g t (ts ++ rest) ∙ ap (reread (λ gs. chain_of c (g ∷ gs))) (rw front at others))))

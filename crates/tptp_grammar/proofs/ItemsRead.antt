@@ -23,7 +23,7 @@ use Rattle.tptp_grammar.specs.Spells.{IsAnnotation, SpellsSelection, SpellsInclu
 use Rattle.tptp_grammar.specs.Spells.IsAnnotation.{no_annotation, source_alone, source_with}
 use Rattle.tptp_grammar.proofs.ReaderSteps.{behind_dot-other, behind_dot-here, items-none, items-next}
 use Rattle.tptp_grammar.proofs.Endings.{ends_formula, Ends, ends_at}
-use Rattle.tptp_lexer.proofs.Laws.{behind-here, behind-other, naming_here, file_here, selection_read, longer}
+use Rattle.tptp_lexer.proofs.Laws.{behind-here, behind-other, name_from-naming, name_from-file, selection_read, length_behind}
 use Rattle.tptp_grammar.proofs.FormulasRead.{formula_read}
 use Rattle.tptp_grammar.proofs.DotsSkipped.{annotation_skipped}
 
@@ -115,7 +115,7 @@ include_read file only us rest s depth = let tail = s.last ∷ s.dot ∷ rest in
     (item_is_include depth s.word (s.first ∷ s.quoted ∷ (s.selection ++ tail)) s.is_word.1 ∙
     (ap (option_and_then (λ ts. option_and_then include_behind (name_from naming.OfFile ts)))
     (behind-here kind.OpenParenthesis s.first (s.quoted ∷ (s.selection ++ tail)) s.opens) ∙
-    (ap (option_and_then include_behind) (file_here s.quoted (s.selection ++ tail) s.is_file.0) ∙
+    (ap (option_and_then include_behind) (name_from-file s.quoted (s.selection ++ tail) s.is_file.0) ∙
     (ap (λ x. include_behind (x, s.selection ++ tail)) (sym s.is_file.1) ∙
     (ap (λ read. option_and_then ended (reread (Include file) read)) (only_read only s.selection s.last (s.dot ∷ rest) s.selected s.closes) ∙
     ended_read (Include file only) tail rest (end_read s.last s.dot rest s.closes s.is_dot))))))
@@ -128,7 +128,7 @@ item_read (ItemFof fof) us rest s depth sum = let tail = s.last ∷ s.dot ∷ re
     rw (s.split, append_assoc s.formula (s.annotation ++ (s.last ∷ s.dot ∷ [])) rest, append_assoc s.annotation (s.last ∷ s.dot ∷ []) rest)
     (item_is_fof depth s.word (s.first ∷ s.name ∷ s.comma ∷ s.role ∷ s.between ∷ (s.formula ++ (s.annotation ++ tail))) s.is_word.1 ∙
     fof_read depth fof s.first s.name s.comma s.role s.between (s.formula ++ (s.annotation ++ tail)) (s.annotation ++ tail) rest s.opens s.is_name.1
-    (naming_here s.name (s.comma ∷ s.role ∷ s.between ∷ (s.formula ++ (s.annotation ++ tail))) s.is_name.0) s.is_comma s.is_role.1 s.is_between
+    (name_from-naming s.name (s.comma ∷ s.role ∷ s.between ∷ (s.formula ++ (s.annotation ++ tail))) s.is_name.0) s.is_comma s.is_role.1 s.is_between
     (formula_read s.spelled depth (s.annotation ++ tail) sum (annotation_ends s.annotated s.last (s.dot ∷ rest) s.closes))
     (annotation_skipped s.annotated tail ∙ end_read s.last s.dot rest s.closes s.is_dot))
 
@@ -150,7 +150,7 @@ items_few : (items : List Item) (ts : List Token) → SpellsItems items ts → l
 items_few [] ts s = omega arith
 items_few (item ∷ items) all s = let (us, vs, first, later, split) = s in
     let (t, ts, front) = item_begins item us first in
-    rw (split, front) (longer ts vs (length items) (items_few items vs later))
+    rw (split, front) (length_behind ts vs (length items) (items_few items vs later))
 
 -- items that are spelled are read
 all_read : (depth : ℕ) → 0 + depth ≡ MOST_LEVELS → (items : List Item) (most : ℕ) (ts : List Token) → SpellsItems items ts →

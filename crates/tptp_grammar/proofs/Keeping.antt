@@ -29,15 +29,15 @@ abbrev pub kept_items : List Token → Grammar ItemPart Token
 kept_items all = record { takes = λ p t. keeps p (mark_in all t); alternatives = alternatives }
 
 -- a level that the watcher lets pass is not too deep
-within : (level : ℕ) (deep : Bool) → nat_lt MOST_LEVELS level ≡ deep → (bindings after : Bindings) →
+level_within : (level : ℕ) (deep : Bool) → nat_lt MOST_LEVELS level ≡ deep → (bindings after : Bindings) →
     (if deep then Err TooDeep else Ok bindings) ≡ Ok after → IsTrue (nat_le level MOST_LEVELS)
-within level true e bindings after h = absurd (cc)
-within level false e bindings after h = grind (arith, nat_tests)
+level_within level true e bindings after h = absurd (cc)
+level_within level false e bindings after h = grind (arith, nat_tests)
 
 -- a part that takes a token in which the watcher finds nothing keeps it
 seen_kept : (p : ItemPart) (m : Mark) (before after : Bindings) → IsTrue (takes p m) → look before p m ≡ Ok after → IsTrue (keeps p m)
 seen_kept (parts.Opens level k) m before after h seen =
-    rw (within level (nat_lt MOST_LEVELS level) refl (open_at (level - 1) before) after seen) h
+    rw (level_within level (nat_lt MOST_LEVELS level) refl (open_at (level - 1) before) after seen) h
 seen_kept parts.RoleWord (Role role) before after h seen = refl
 seen_kept parts.RoleWord m before after h seen = absurd (cc)
 seen_kept p m before after h seen = h

@@ -40,18 +40,18 @@ bound_each scope [] all = tt
 bound_each scope (g ∷ gs) all = (all.0, bound_each scope gs all.1)
 
 -- a row of two formulas and more has two members at least
-two : (g h : Formula) (gs : List Formula) → TwoOrMore (row_of (g ∷ h ∷ gs))
+two_or_more : (g h : Formula) (gs : List Formula) → TwoOrMore (row_of (g ∷ h ∷ gs))
 unfolding row_of
-two g h gs = tt
+two_or_more g h gs = tt
 
 module _ (scope : List Text) where
   -- a chain is bound where each member is
   chain_bound : (c : Chain) (g h : Formula) (gs : List Formula) → AllByRecursion (IsBoundIn scope) (g ∷ h ∷ gs) →
       IsBoundIn scope (chain_of c (g ∷ h ∷ gs))
   chain_bound conjunction g h gs all =
-      subst (IsBoundIn scope) (sym (And_opens (g ∷ h ∷ gs))) (two g h gs, each_bound scope (g ∷ h ∷ gs) all)
+      subst (IsBoundIn scope) (sym (And_opens (g ∷ h ∷ gs))) (two_or_more g h gs, each_bound scope (g ∷ h ∷ gs) all)
   chain_bound disjunction g h gs all =
-      subst (IsBoundIn scope) (sym (Or_opens (g ∷ h ∷ gs))) (two g h gs, each_bound scope (g ∷ h ∷ gs) all)
+      subst (IsBoundIn scope) (sym (Or_opens (g ∷ h ∷ gs))) (two_or_more g h gs, each_bound scope (g ∷ h ∷ gs) all)
 
   -- each member of a bound chain is bound
   bound_chain : (c : Chain) (g h : Formula) (gs : List Formula) → IsBoundIn scope (chain_of c (g ∷ h ∷ gs)) →
@@ -139,6 +139,7 @@ module _ (all : List Token) where
       (chosen all behind_word (right all (token_of all k between other mark) (term_watched all u vs second))))
 
   mutual
+    -- a formula, where its variables are bound in the scope
     pub formula_watched : {level : ℕ} {f : Formula} {us : List Token} (scope : List Text) → SpellsFormula level f us →
         Watching all (parts.Formula level ∷ []) level level us scope scope (IsBoundIn scope f)
     formula_watched {us = us} scope (alone unit) =
@@ -156,6 +157,7 @@ module _ (all : List Token) where
         (chosen all (inl refl) (joined all (unit_watched scope first)
         (chosen all (inr (inr (inr (inl refl)))) (right all (op_of all o between mark) (unit_watched scope second))))))
 
+    -- further members of a chain
     rest_watched : {k : Kind} {level : ℕ} {gs : List Formula} {us : List Token} (scope : List Text) (r later : ItemPart) → is_other k ≡ true →
         IsRest k level r later → IsRest k level later later → SpellsRest k level gs us →
         Watching all (r ∷ []) level level us scope scope (AllByRecursion (IsBoundIn scope) gs)
@@ -165,6 +167,7 @@ module _ (all : List Token) where
         (chosen all at_first.1 (right all (token_of all k before other mark)
         (joined all (unit_watched scope first) (rest_watched scope later later other at_later at_later others))))
 
+    -- a unit formula
     unit_watched : {level : ℕ} {f : Formula} {us : List Token} (scope : List Text) → SpellsUnitary level f us →
         Watching all (parts.Unitary level ∷ []) level level us scope scope (IsBoundIn scope f)
     unit_watched scope (brackets {level = level} first ts last below opens inner closes split) =

@@ -171,20 +171,20 @@ use_tells n bindings after e = by (is_bound n bindings) refl e
     by false h g = absurd (cc)
 
 -- a level is at most itself
-itself : (n : ℕ) → nat_le n n ≡ true
-itself n = grind arith
+nat_le-self : (n : ℕ) → nat_le n n ≡ true
+nat_le-self n = grind arith
 
 -- the next level is not at most this one
-not_below : (n : ℕ) → nat_le (n + 1) n ≡ false
-not_below n = grind arith
+nat_le-higher : (n : ℕ) → nat_le (n + 1) n ≡ false
+nat_le-higher n = grind arith
 
 -- a binding is open at its own level, and not at the one below
 opens_here : (level n : ℕ) (s : Bindings) → open_at level (record { level = level; variable = n } ∷ s) ≡ record { level = level; variable = n } ∷ open_at level s
-opens_here level n s = rw (itself level) refl
+opens_here level n s = rw (nat_le-self level) refl
 
 -- a binding at the next level is not open at this one
 opens_above : (level n : ℕ) (s : Bindings) → open_at level (record { level = level + 1; variable = n } ∷ s) ≡ open_at level s
-opens_above level n s = rw (not_below level) refl
+opens_above level n s = rw (nat_le-higher level) refl
 
 module _ (all : List Token) where
   -- a token of a kind that no other mark tells

@@ -125,19 +125,19 @@ atom_behind level first us ts last s ss o is rest c word w = (
 )
 
 -- what the members of an alternative make
-made : (p : ItemPart) → EachLeads shape_of p (alternatives p)
-made parts.Items = (([], refl), (λ us item vs items. (item.0 ∷ items.0, (us, vs, item.1, items.1, refl)), tt))
-made parts.Item = (λ word is ts rest. rest word is, (λ word is ts rest. rest word is, tt))
-made parts.FofHead = (
+rows_lead : (p : ItemPart) → EachLeads shape_of p (alternatives p)
+rows_lead parts.Items = (([], refl), (λ us item vs items. (item.0 ∷ items.0, (us, vs, item.1, items.1, refl)), tt))
+rows_lead parts.Item = (λ word is ts rest. rest word is, (λ word is ts rest. rest word is, tt))
+rows_lead parts.FofHead = (
   λ first o name n comma c role r between k formula f tail t.
       fof_behind first name comma role between formula tail r.0 f.0 o n c r.1 k f.1 t,
   tt,
 )
-made parts.FofTail = (
+rows_lead parts.FofTail = (
   λ last c dot d. closed IsAnnotation [] (last ∷ dot ∷ []) last dot no_annotation c d refl,
   (λ comma c us g ts rest. rest comma us c g, tt),
 )
-made parts.FofEnd = (
+rows_lead parts.FofEnd = (
   λ last l dot d comma us c g. closed IsAnnotation (comma ∷ us) (comma ∷ (us ++ (last ∷ dot ∷ []))) last dot
       (source_alone comma us c g refl) l d refl,
   (
@@ -148,8 +148,8 @@ made parts.FofEnd = (
     tt,
   ),
 )
-made parts.IncludeHead = (λ first o quoted q tail t. include_behind first quoted tail t.0 o q t.1, tt)
-made parts.IncludeTail = (
+rows_lead parts.IncludeHead = (λ first o quoted q tail t. include_behind first quoted tail t.0 o q t.1, tt)
+rows_lead parts.IncludeTail = (
   λ last c dot d. (None, closed (SpellsSelection None) [] (last ∷ dot ∷ []) last dot refl c d refl),
   (
     λ comma c first o name n ts rest close k last l dot d.
@@ -157,10 +157,10 @@ made parts.IncludeTail = (
     tt,
   ),
 )
-made parts.NamesRest =
+rows_lead parts.NamesRest =
     (([], none), (λ comma c name n ts rest. (name_of name ∷ rest.0, more comma (name ∷ []) ts c (name, n, refl, refl) rest.1 refl), tt))
-made (parts.Formula level) = (λ us u ts rest. rest u.0 us u.1, tt)
-made (parts.FormulaRest level) = (
+rows_lead (parts.Formula level) = (λ us u ts rest. rest u.0 us u.1, tt)
+rows_lead (parts.FormulaRest level) = (
   λ g us u. (g, subst (SpellsFormula level g) (sym (append-nil us)) (alone u)),
   (
     λ sign k vs h ws rest g us u.
@@ -172,9 +172,9 @@ made (parts.FormulaRest level) = (
     ),
   ),
 )
-made (parts.AndRest level) = (([], end), (λ sign k us g ts rest. (g.0 ∷ rest.0, further sign us ts k g.1 rest.1 refl), tt))
-made (parts.OrRest level) = (([], end), (λ sign k us g ts rest. (g.0 ∷ rest.0, further sign us ts k g.1 rest.1 refl), tt))
-made (parts.Unitary level) = (
+rows_lead (parts.AndRest level) = (([], end), (λ sign k us g ts rest. (g.0 ∷ rest.0, further sign us ts k g.1 rest.1 refl), tt))
+rows_lead (parts.OrRest level) = (([], end), (λ sign k us g ts rest. (g.0 ∷ rest.0, further sign us ts k g.1 rest.1 refl), tt))
+rows_lead (parts.Unitary level) = (
   λ first o ts f last c. (f.0, brackets first ts last (below level o.1) o.0 f.1 c refl),
   (
     λ first o ts g. (Not g.0, negation g.0 first ts (below level o.1) o.0 g.1 refl refl),
@@ -206,7 +206,7 @@ made (parts.Unitary level) = (
         (f : Formula) × SpellsUnitary level f (t ∷ [])
     truth_made t (k, inl text) = (True, truth true t k text refl refl)
     truth_made t (k, inr text) = (False, truth false t k text refl refl)
-made (parts.Quantified level) = (
+rows_lead (parts.Quantified level) = (
   λ first o t x ts rest last c colon k vs g. record {
     variables = name_of t ∷ rest.0;
     body = g.0;
@@ -221,9 +221,9 @@ made (parts.Quantified level) = (
   },
   tt,
 )
-made (parts.BindsRest level) =
+rows_lead (parts.BindsRest level) =
     (([], none), (λ comma c t x ts rest. (name_of t ∷ rest.0, more comma (t ∷ []) ts c (t, x, refl, refl) rest.1 refl), tt))
-made (parts.AfterWord level) = (
+rows_lead (parts.AfterWord level) = (
   λ word w. (Pred (name_of word) [], atom word [] [] w refl refl refl),
   (
     λ first o us s ts rest last c. atom_behind level first us ts last s.0 rest.0 o s.1 rest.1 c,
@@ -242,27 +242,27 @@ made (parts.AfterWord level) = (
     ),
   ),
 )
-made (parts.Equation level) = (
+rows_lead (parts.Equation level) = (
   λ between k vs u s us h. (Equal s u.0, equation s u.0 us between vs h k u.1 refl refl),
   (λ between k vs u s us h. (Not (Equal s u.0), inequality s u.0 us between vs h k u.1 refl refl), tt),
 )
-made (parts.Term level) =
+rows_lead (parts.Term level) =
     (λ t x. (Variable (name_of t), (t, x, refl, refl)), (λ t w. (Constant (name_of t), (t, w, refl, refl)), tt))
-made (parts.TermsRest level) =
+rows_lead (parts.TermsRest level) =
     (([], none), (λ comma c us s ts rest. (s.0 ∷ rest.0, more comma us ts c s.1 rest.1 refl), tt))
-made (parts.General level) = (λ us d ts rest. rest us d, (λ ts list. in_list list, tt))
-made (parts.GeneralRest level) = (
+rows_lead (parts.General level) = (λ us d ts rest. rest us d, (λ ts list. in_list list, tt))
+rows_lead (parts.GeneralRest level) = (
   λ us d. subst (IsGeneral level) (sym (append-nil us)) (data_alone d),
   (λ colon k vs g us d. data_with us colon vs d k g refl, tt),
 )
-made (parts.GeneralsRest level) = (no_general, (λ comma c us g ts rest. next_general comma us ts c g rest refl, tt))
-made (parts.Data level) = (λ t p. plain t p refl, (λ word w ts rest. rest word w, tt))
-made (parts.DataArguments level) = (
+rows_lead (parts.GeneralsRest level) = (no_general, (λ comma c us g ts rest. next_general comma us ts c g rest refl, tt))
+rows_lead (parts.Data level) = (λ t p. plain t p refl, (λ word w ts rest. rest word w, tt))
+rows_lead (parts.DataArguments level) = (
   λ word w. word_alone word w refl,
   (λ first o us g vs gs last c word w. word_with word first us vs last w (below level o.1) o.0 g gs c refl, tt),
 )
-made (parts.List level) = (λ first o ts rest. rest level first refl (below level o.1) o.0, tt)
-made (parts.ListBody inner) = (
+rows_lead (parts.List level) = (λ first o ts rest. rest level first refl (below level o.1) o.0, tt)
+rows_lead (parts.ListBody inner) = (
   λ last c level first e low o. empty_list first last low o c refl,
   (
     λ us g vs gs last c level first e low o.
@@ -270,12 +270,12 @@ made (parts.ListBody inner) = (
     tt,
   ),
 )
-made _ = tt
+rows_lead _ = tt
 
 -- a text in which the watcher finds nothing is spelled by some items
 pub items_spelled : (ts : List Token) (takers : List ItemPart) (after : Bindings) →
     Taken fof_items true (parts.Items ∷ []) (marks_of ts) takers → Sees items_watcher [] takers (marks_of ts) after →
     (items : List Item) × SpellsItems items ts
 items_spelled ts takers after taken seen =
-    text_holds shape_of (kept_items ts) (λ p t h. token_fits p (mark_in ts t) t (mark_tells ts t) h) made parts.Items ts
+    text_holds shape_of (kept_items ts) (λ p t h. token_fits p (mark_in ts t) t (mark_tells ts t) h) rows_lead parts.Items ts
     (kept_text ts takers after taken seen)

@@ -1,13 +1,14 @@
 -- The printed grammar of items and the factored one spell and begin the same tokens: each part of
 -- one stands for rows of the other.
-use Rattle.std.specs.Prelude.{◌≡◌, ℕ, zero, suc, ◌+◌, false, List, [], ◌∷◌, ◌++◌, IsTrue}
+use Rattle.std.specs.Prelude.{◌≡◌, ◌+◌, false, List, [], ◌∷◌, IsTrue}
 use Rattle.std.proofs.Common.{refl, inl, inr}
 use Rattle.std.proofs.lemmas.Bool.{false≢true}
 use Rattle.text_core.specs.Lists.{IsAmong}
-use Rattle.token_grammar.specs.Grammar.{Grammar, Spelled}
+use Rattle.token_grammar.specs.Grammar.{Spelled}
 use Rattle.token_grammar.specs.Plan.{is_empty}
-use Rattle.token_grammar.specs.Factored.{Translates, AlternativesAreMade, Becomes}
-use Rattle.token_grammar.specs.Factored.Becomes.{done, keep, replace}
+use Rattle.token_grammar.specs.Factored.{Translates, AlternativesAreMade}
+use Rattle.token_grammar.specs.Factored.Becomes.{done, keep}
+use Rattle.token_grammar.proofs.Becoming.{to, kept}
 use Rattle.tptp_lexer.specs.declared.kind.Kind.TheVariants as kind
 use Rattle.tptp_grammar.specs.declared.mark.Mark.{Mark}
 use Rattle.tptp_grammar.specs.declared.item_part.ItemPart.{ItemPart}
@@ -93,29 +94,6 @@ made (general level) = (General level ∷ []) ∷ []
 made (list level) = (BracketList level ∷ []) ∷ []
 made (generals level) = (General level ∷ GeneralsRest level ∷ []) ∷ []
 made (datum level) = (Data level ∷ []) ∷ []
-
--- the row of this number has the property
-abbrev At : {Q : Type 0} → List (List Q) → ℕ → (List Q → Type 0) → Type 0
-At [] n P = ⊥
-At (row ∷ rows) zero P = P row
-At (row ∷ rows) (suc n) P = At rows n P
-
-at_row : {Q : Type 0} (rows : List (List Q)) (n : ℕ) (P : List Q → Type 0) → At rows n P →
-    (row : List Q) × IsAmong row rows × P row
-at_row [] n P held = absurd held
-at_row (row ∷ rows) zero P held = (row, inl refl, held)
-at_row (row ∷ rows) (suc n) P held = let found = at_row rows n P held in (found.0, inr found.1, found.2)
-
--- the first member is replaced by its alternative of this number
-to : {Q T : Type 0} {h : Grammar Q T} {q : Q} {row other : List Q} (n : ℕ) →
-    At (h.alternatives q) n (λ alternative. Becomes h (alternative ++ row) other) →
-    Becomes h (q ∷ row) other
-to n held = let found = at_row _ n _ held in replace found.0 found.1 found.2
-
--- all members stay
-kept : {Q T : Type 0} {h : Grammar Q T} {row : List Q} → Becomes h row row
-kept {row = []} = done
-kept {row = q ∷ row} = keep kept
 
 -- both
 infixr 5 ◌&◌

@@ -1,19 +1,34 @@
 ghost use Rattle.std.specs.Prelude.{◌≡◌, [], ◌∷◌, length};
 ghost use Rattle.logic_core.specs.declared.formula.Term.TheVariants.{Variable, Constant};
-ghost use Rattle.tptp_lexer.specs.declared.kind.Kind.TheVariants as kind;
 ghost use Rattle.tptp_grammar.specs.Reading.{term_from, equation_from, atom_from};
 ghost use Rattle.tptp_lexer.specs.Reading.{Gives, with_front, more_from, listed_from};
 
 use logic_core::{Boxed, Formula, List, Name, Term};
 use std::alloc::Global;
-use tptp_lexer::{Cursor, Kind, NotRead};
+use tptp_lexer::{Cursor, Kind, NotRead, Reads};
+
+/// What reads a term.
+struct Terms;
+
+impl Reads for Terms {
+    type Value = Term;
+
+    ghost use Rattle.tptp_grammar.specs.Reading.{term_from};
+
+    ghost from = { λ terms. term_from };
+
+    fn read<'t, 'a>(
+        &self,
+        alloc: Global,
+        cursor: &Cursor<'t, 'a>,
+    ) -> Result<(Term, Cursor<'t, 'a>), NotRead> {
+        term(alloc, cursor)
+    }
+}
 
 /// A term.
 #[tactic(auto, unfolding(crate::specs::Reading::term_from))]
-pub(crate) fn term<'t, 'a>(
-    alloc: Global,
-    cursor: &Cursor<'t, 'a>,
-) -> Result<(Term, Cursor<'t, 'a>), NotRead>
+fn term<'t, 'a>(alloc: Global, cursor: &Cursor<'t, 'a>) -> Result<(Term, Cursor<'t, 'a>), NotRead>
     ensures { Gives (λ read. read) result (term_from cursor.now) }
 {
     let Some((token, rest)) = cursor.next() else {
@@ -24,44 +39,6 @@ pub(crate) fn term<'t, 'a>(
         Kind::Lower | Kind::Quoted => Ok((Term::Constant(token.name(alloc)?), rest)),
         _ => Err(NotRead::NoText),
     }
-}
-
-/// A term in front of further ones, each behind a comma.
-#[tactic(auto, using(tptp_lexer::proofs::Laws::further))]
-fn more_terms<'t, 'a>(
-    alloc: Global,
-    first: Term,
-    cursor: Cursor<'t, 'a>,
-) -> Result<(List<Term>, Cursor<'t, 'a>), NotRead>
-    ensures { Gives (λ read. read) result (with_front (first ∷ []) (more_from term_from kind.Comma
-        (length cursor.entry) cursor.entry)) }
-{
-    let mut terms = List::new(alloc);
-    terms.push(first)?;
-    let count = cursor.len();
-    let mut rest = cursor;
-    for _ in 0..count {
-        let Some(after) = rest.behind(Kind::Comma) else {
-            return Ok((terms, rest));
-        };
-        let (next, tail) = term(alloc, &after)?;
-        terms.push(next)?;
-        rest = tail;
-    }
-    Ok((terms, rest))
-}
-
-/// The arguments of an atom behind the opening bracket.
-fn arguments<'t, 'a>(
-    alloc: Global,
-    cursor: &Cursor<'t, 'a>,
-) -> Result<(List<Term>, Cursor<'t, 'a>), NotRead>
-    ensures { Gives (λ read. read) result (listed_from term_from kind.CloseParenthesis cursor.now) }
-{
-    let (first, rest) = term(alloc, cursor)?;
-    let (terms, rest) = more_terms(alloc, first, rest)?;
-    let rest = rest.skip(Kind::CloseParenthesis)?;
-    Ok((terms, rest))
 }
 
 /// An equation, or an inequality, behind its left side.
@@ -104,7 +81,7 @@ pub(crate) fn atom<'t, 'a>(
     };
     match token.kind() {
         Kind::OpenParenthesis => {
-            let (terms, rest) = arguments(alloc, &rest)?;
+            let (terms, rest) = rest.listed(alloc, &Terms, Kind::CloseParenthesis)?;
             Ok((Formula::Pred(name, terms), rest))
         }
         Kind::Equal | Kind::NotEqual => equation(alloc, Term::Constant(name), &cursor),

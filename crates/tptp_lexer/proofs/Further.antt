@@ -41,11 +41,11 @@ with_front-append xs ys None = refl
 with_front-append xs ys (Some read) = ap (λ zs. Some (zs, read.1)) (append_assoc xs ys read.0)
 
 -- one more value was read
-pub goes_on : {X : Type 0} (read : List Token → Read X) (k : Kind) (count i : ℕ) (ts after tail : List Token) (front new : List X) (x : X) (total : Read (List X))
+pub more-goes_on : {X : Type 0} (read : List Token → Read X) (k : Kind) (count i : ℕ) (ts after tail : List Token) (front new : List X) (x : X) (total : Read (List X))
     → i < count → new ≡ front ++ x ∷ [] → read after ≡ Some (x, tail) → Some after ≡ behind k ts
     → with_front front (more_from read k (count - i) ts) ≡ total → with_front new (more_from read k (count - (i + 1)) tail) ≡ total
 unfolding more_from
-goes_on read k count i ts after tail front new x total lt pushed r b so_far =
+more-goes_on read k count i ts after tail front new x total lt pushed r b so_far =
     let n : count - i ≡ suc (count - (i + 1)) = omega arith in
     let rest = more_from read k (count - (i + 1)) tail in
     let one : more_from read k (count - i) ts ≡ with_front (x ∷ []) rest = rw (n, ← b, r) refl in
@@ -81,7 +81,7 @@ is_full read k zero ts front total e so_far = sym so_far ∙ ap (λ xs. Some (xs
 is_full read k (suc most) ts front total e so_far = absurd (omega arith)
 
 -- the rules for a further value of a list
-pub ruleset further = (goes_on, stops, gives_up, ends, is_full)
+pub ruleset further = (more-goes_on, stops, gives_up, ends, is_full)
 
 -- a list that was read behind one value is changed as a whole
 pub reread_front : {X Y : Type 0} (joined : List X → Y) (x : X) (read : Read (List X)) → reread (λ xs. joined (x ∷ xs)) read ≡ reread joined (with_front (x ∷ []) read)

@@ -7,6 +7,6 @@ pub use Rattle.tptp_lexer.proofs.Whole.{lower_longest, upper_longest, dollar_lon
 pub use Rattle.tptp_lexer.proofs.Quoted.{word_longest, inside_of}
 pub use Rattle.tptp_lexer.proofs.Bodies.{body_plain, body_escape}
 pub use Rattle.tptp_lexer.proofs.Same.{same_kind-is}
-pub use Rattle.tptp_lexer.proofs.Further.{behind-here, behind-other, more-none, more-next, with_front-append, goes_on, reread_front, further}
-pub use Rattle.tptp_lexer.proofs.ListsRead.{ReadsSpelled, naming_here, file_here, longer, listed_read, between_read, variables_read, selection_read, between_of, OpenedList, between_opens, between_behind}
+pub use Rattle.tptp_lexer.proofs.Further.{behind-here, behind-other, more-none, more-next, with_front-append, more-goes_on, reread_front, further}
+pub use Rattle.tptp_lexer.proofs.ListsRead.{ReadsSpelled, name_from-naming, name_from-file, length_behind, listed_read, between_read, variables_read, selection_read, between_of, OpenedList, between_opens, between_behind}
 pub use Rattle.tptp_lexer.proofs.Numbering.{number_of_same}

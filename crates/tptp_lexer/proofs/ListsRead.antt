@@ -19,24 +19,24 @@ abbrev pub ReadsSpelled : {X : Type 0} → (X → List Token → Type 0) → (Li
 ReadsSpelled {X = X} spells read = (x : X) (us rest : List Token) → spells x us → read (us ++ rest) ≡ Some (x, rest)
 
 -- a name is read where its token may be one
-name_here : (wanted : Naming) (t : Token) (rest : List Token) → may_name wanted t.kind ≡ true → name_from wanted (t ∷ rest) ≡ Some (name_of t, rest)
+name_from-here : (wanted : Naming) (t : Token) (rest : List Token) → may_name wanted t.kind ≡ true → name_from wanted (t ∷ rest) ≡ Some (name_of t, rest)
 unfolding name_from
-name_here wanted t rest may = ap (λ b. if b then Some (name_of t, rest) else None) may
+name_from-here wanted t rest may = ap (λ b. if b then Some (name_of t, rest) else None) may
 
 -- a name that is spelled is read
 name_read : (wanted : Naming) (P : Token → Type 0) → ((t : Token) → P t → may_name wanted t.kind ≡ true) →
     ReadsSpelled (SpellsName P) (name_from wanted)
-name_read wanted P may x us rest s = let (t, is, name, split) = s in rw (split, name) (name_here wanted t rest (may t is))
+name_read wanted P may x us rest s = let (t, is, name, split) = s in rw (split, name) (name_from-here wanted t rest (may t is))
 
--- a list behind a token is longer
-pub longer : {A : Type 0} (us vs : List A) (n : ℕ) → n ≤ length vs → suc n ≤ suc (length (us ++ vs))
-longer us vs n few = let e = length-append us vs in omega arith
+-- a list behind a token is length_behind
+pub length_behind : {A : Type 0} (us vs : List A) (n : ℕ) → n ≤ length vs → suc n ≤ suc (length (us ++ vs))
+length_behind us vs n few = let e = length-append us vs in omega arith
 
 module _ {X : Type 0} (spells : X → List Token → Type 0) where
   -- each further value takes a token
   more_few : {xs : List X} {us : List Token} → SpellsMore spells xs us → length xs ≤ length us
   more_few none = omega arith
-  more_few (more {xs = xs} comma us vs is s later split) = rw split (longer us vs (length xs) (more_few later))
+  more_few (more {xs = xs} comma us vs is s later split) = rw split (length_behind us vs (length xs) (more_few later))
 
 module _ {X : Type 0} (spells : X → List Token → Type 0) (read : List Token → Read X) (reads : ReadsSpelled spells read) where
   -- further values that are spelled are read
@@ -103,12 +103,12 @@ naming_read : ReadsSpelled (SpellsName IsNaming) (name_from naming.OfFormula)
 naming_read = name_read naming.OfFormula IsNaming naming_may
 
 -- the name of a formula
-pub naming_here : (t : Token) (rest : List Token) → IsNaming t → name_from naming.OfFormula (t ∷ rest) ≡ Some (name_of t, rest)
-naming_here t rest is = name_here naming.OfFormula t rest (naming_may t is)
+pub name_from-naming : (t : Token) (rest : List Token) → IsNaming t → name_from naming.OfFormula (t ∷ rest) ≡ Some (name_of t, rest)
+name_from-naming t rest is = name_from-here naming.OfFormula t rest (naming_may t is)
 
 -- the name of a file
-pub file_here : (t : Token) (rest : List Token) → t.kind ≡ kind.Quoted → name_from naming.OfFile (t ∷ rest) ≡ Some (name_of t, rest)
-file_here t rest is = name_here naming.OfFile t rest (file_may t is)
+pub name_from-file : (t : Token) (rest : List Token) → t.kind ≡ kind.Quoted → name_from naming.OfFile (t ∷ rest) ≡ Some (name_of t, rest)
+name_from-file t rest is = name_from-here naming.OfFile t rest (file_may t is)
 
 -- variables in square brackets are read
 pub variables_read : ReadsSpelled (SpellsBetween kind.OpenBracket kind.CloseBracket SpellsVariable) (names_from naming.OfVariable)

@@ -28,7 +28,7 @@ pub use law::{
 };
 pub use lexer::tokens;
 pub use numbered_tokens::NumberedTokens;
-pub use reader::{Naming, NotRead};
+pub use reader::{Naming, NotRead, Reads};
 pub use refusal::LexRefusal;
 pub use token::Token;
 pub use token_list::Tokens;

@@ -61,7 +61,8 @@ impl<'t, 'a> NumberedTokens<'t, 'a> {
         self.tokens.token(number)
     }
 
-    /// The number of the upper word that the token with this number is.
+    /// The number of the upper word that the token with this number is: that of the first token
+    /// that is this word.
     pub fn word_number(&self, number: usize) -> u32
         requires { IsSomeAnd (slice_get self.now number) (λ t. t.kind ≡ Upper) }
         ensures { IsSomeAnd (slice_get self.now number)

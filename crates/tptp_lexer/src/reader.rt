@@ -1,7 +1,8 @@
-ghost use Rattle.std.specs.Prelude.{◌≡◌, [], ◌∷◌, length};
+ghost use Rattle.std.specs.Prelude.{◌≡◌, List as Lst, [], ◌∷◌, length};
 ghost use Rattle.tptp_lexer.specs.declared.kind.Kind.TheVariants as kind;
 ghost use Rattle.tptp_lexer.specs.Same.{same_kind};
-ghost use Rattle.tptp_lexer.specs.Reading.{Gives, behind, may_name, name_from, names_from, with_front, more_from};
+ghost use Rattle.tptp_lexer.specs.Reading.{Read, Gives, behind, may_name, name_from, names_from, listed_from, with_front, more_from};
+ghost use Rattle.tptp_lexer.specs.Tokens.{Token};
 
 use crate::cursor::Cursor;
 use crate::kind::Kind;
@@ -17,7 +18,7 @@ pub enum NotRead {
     Memory,
 }
 
-/// What a name is for, which tells the kinds of tokens that may spell it.
+/// What a name is for, which tells the kinds of tokens that may spell it. Source: the TPTP syntax.
 #[derive(Clone, Copy, Debug)]
 pub enum Naming {
     /// A variable: an upper word.
@@ -26,6 +27,23 @@ pub enum Naming {
     OfFormula,
     /// A file: a quoted word.
     OfFile,
+}
+
+/// What reads one value from the first of some tokens, as a `Naming` reads a name.
+pub trait Reads {
+    /// What is read.
+    type Value: Drop;
+
+    ghost from: { Self → Lst Token → Read Self.Value };
+
+    /// A value and what is left behind it. `NoText` where the tokens begin with none, `Memory` for
+    /// want of memory.
+    fn read<'t, 'a>(
+        &self,
+        alloc: Global,
+        cursor: &Cursor<'t, 'a>,
+    ) -> Result<(Self::Value, Cursor<'t, 'a>), NotRead>
+        ensures { Gives (λ read. read) result (from self.now cursor.now) };
 }
 
 impl From<Memory> for NotRead {
@@ -51,7 +69,7 @@ impl From<AllocError> for NotRead {
 }
 
 impl Kind {
-    /// Whether the two kinds are the same.
+    /// Whether the two kinds are the same, as `==`, told to contracts by `same_kind`.
     pub fn is(self, other: Kind) -> bool
         ensures { result ≡ same_kind self other }
     {
@@ -91,13 +109,9 @@ impl<'t, 'a> Cursor<'t, 'a> {
     }
 
     /// A name and what is left behind it. `NoText` where the first token is no such name, or there
-    /// is none.
+    /// is none, `Memory` for want of memory.
     #[tactic(auto, unfolding(crate::specs::Reading::name_from))]
-    pub fn name(
-        &self,
-        alloc: Global,
-        naming: Naming,
-    ) -> Result<(Name, Cursor<'t, 'a>), NotRead>
+    pub fn name(&self, alloc: Global, naming: Naming) -> Result<(Name, Cursor<'t, 'a>), NotRead>
         ensures { Gives (λ read. read) result (name_from naming self.now) }
     {
         match self.next() {
@@ -108,8 +122,25 @@ impl<'t, 'a> Cursor<'t, 'a> {
         }
     }
 
+    /// One or more values with a comma between each two, and a token of the kind `close`, with what
+    /// is left behind it. `NoText` where the tokens do not begin with such a list, `Memory` for want
+    /// of memory.
+    pub fn listed<R: Reads>(
+        &self,
+        alloc: Global,
+        reader: &R,
+        close: Kind,
+    ) -> Result<(List<R::Value>, Cursor<'t, 'a>), NotRead>
+        ensures { Gives (λ read. read) result (listed_from (R.from reader.now) close self.now) }
+    {
+        let (first, rest) = reader.read(alloc, self)?;
+        let (values, rest) = more_values(alloc, reader, first, rest)?;
+        let rest = rest.skip(close)?;
+        Ok((values, rest))
+    }
+
     /// Names in square brackets, with a comma between each two, and what is left behind them.
-    /// `NoText` where the tokens do not begin with such a list.
+    /// `NoText` where the tokens do not begin with such a list, `Memory` for want of memory.
     pub fn names(
         &self,
         alloc: Global,
@@ -118,35 +149,48 @@ impl<'t, 'a> Cursor<'t, 'a> {
         ensures { Gives (λ read. read) result (names_from naming self.now) }
     {
         let rest = self.skip(Kind::OpenBracket)?;
-        let (first, rest) = rest.name(alloc, naming)?;
-        let (names, rest) = more_names(alloc, first, rest, naming)?;
-        let rest = rest.skip(Kind::CloseBracket)?;
-        Ok((names, rest))
+        rest.listed(alloc, &naming, Kind::CloseBracket)
     }
 }
 
-/// A name in front of further ones, each behind a comma.
+impl Reads for Naming {
+    type Value = Name;
+
+    ghost use Rattle.tptp_lexer.specs.Reading.{name_from};
+
+    ghost from = { name_from };
+
+    fn read<'t, 'a>(
+        &self,
+        alloc: Global,
+        cursor: &Cursor<'t, 'a>,
+    ) -> Result<(Name, Cursor<'t, 'a>), NotRead> {
+        cursor.name(alloc, *self)
+    }
+}
+
+/// A value in front of further ones, each behind a comma.
 #[tactic(auto, using(crate::proofs::Further::further))]
-fn more_names<'t, 'a>(
+fn more_values<'t, 'a, R: Reads>(
     alloc: Global,
-    first: Name,
+    reader: &R,
+    first: R::Value,
     cursor: Cursor<'t, 'a>,
-    naming: Naming,
-) -> Result<(List<Name>, Cursor<'t, 'a>), NotRead>
+) -> Result<(List<R::Value>, Cursor<'t, 'a>), NotRead>
     ensures { Gives (λ read. read) result (with_front (first ∷ []) (more_from
-        (name_from naming) kind.Comma (length cursor.entry) cursor.entry)) }
+        (R.from reader.now) kind.Comma (length cursor.entry) cursor.entry)) }
 {
-    let mut names = List::new(alloc);
-    names.push(first)?;
+    let mut values = List::new(alloc);
+    values.push(first)?;
     let count = cursor.len();
     let mut rest = cursor;
     for _ in 0..count {
         let Some(after) = rest.behind(Kind::Comma) else {
-            return Ok((names, rest));
+            return Ok((values, rest));
         };
-        let (next, tail) = after.name(alloc, naming)?;
-        names.push(next)?;
+        let (next, tail) = reader.read(alloc, &after)?;
+        values.push(next)?;
         rest = tail;
     }
-    Ok((names, rest))
+    Ok((values, rest))
 }
