@@ -1,7 +1,6 @@
-use logic_core::Items;
 use std::alloc::Global;
 use std::test::Fail;
-use text_core::MOST_LEVELS;
+use text_core::{Bytes, MOST_LEVELS, Memory};
 use tptp_grammar::{SyntaxRefusal, read_items};
 use tptp_lexer::tokens;
 
@@ -136,25 +135,25 @@ fn numbered(refusal: &SyntaxRefusal) -> (u32, u32) {
     }
 }
 
-/// The items of a text of at most 1,000,000 bytes, or the number and the offset of its refusal.
-fn read(alloc: Global, text: &[u8]) -> Result<Result<Items, (u32, u32)>, Fail> {
+/// How many items a text of at most 1,000,000 bytes has, or the number and the offset of its
+/// refusal.
+fn told(alloc: Global, text: &[u8]) -> Result<usize, (u32, u32)> {
     if text.len() > 1_000_000 {
-        return Ok(Err((0, 0)));
+        return Err((0, 0));
     }
-    let lexed = tokens(alloc, text)?;
-    Ok(match read_items(alloc, &lexed) {
-        Ok(items) => Ok(items),
+    let Ok(lexed) = tokens(alloc, text) else {
+        return Err((0, 0));
+    };
+    match read_items(alloc, &lexed) {
+        Ok(items) => Ok(items.as_slice().len()),
         Err(refusal) => Err(numbered(&refusal)),
-    })
+    }
 }
 
 #[test]
 fn each_text_is_refused_at_its_offset(rt: HostRuntime) -> Result<(), Fail> {
     for (text, number, offset) in REFUSALS {
-        match read(rt.alloc(), text)? {
-            Ok(_) => assert!(rt; false),
-            Err(told) => assert_eq!(rt; told, (*number, *offset)),
-        }
+        assert_eq!(rt; told(rt.alloc(), text), Err((*number, *offset)));
     }
     Ok(())
 }
@@ -162,17 +161,14 @@ fn each_text_is_refused_at_its_offset(rt: HostRuntime) -> Result<(), Fail> {
 #[test]
 fn texts_of_items_are_read(rt: HostRuntime) -> Result<(), Fail> {
     for (text, count) in TEXTS {
-        match read(rt.alloc(), text)? {
-            Ok(items) => assert_eq!(rt; items.as_slice().len(), *count),
-            Err(_) => assert!(rt; false),
-        }
+        assert_eq!(rt; told(rt.alloc(), text), Ok(*count));
     }
     Ok(())
 }
 
 /// An axiom that is the negation of a negation, and so on, so many of them.
-fn negations(alloc: Global, count: u32) -> Result<Vec<u8>, Fail> {
-    let mut text = Vec::from_slice(alloc, b"fof(a,axiom,")?;
+fn negations(alloc: Global, count: u32) -> Result<Bytes, Memory> {
+    let mut text = Bytes::from_slice(alloc, b"fof(a,axiom,")?;
     for _ in 0..count {
         text.push(b'~')?;
     }
@@ -182,9 +178,9 @@ fn negations(alloc: Global, count: u32) -> Result<Vec<u8>, Fail> {
 
 #[test]
 fn a_formula_opens_at_most_so_many_levels(rt: HostRuntime) -> Result<(), Fail> {
-    let alloc = rt.alloc();
-    assert!(rt; read(alloc, &negations(alloc, MOST_LEVELS)?)?.is_ok());
-    let deeper = negations(alloc, MOST_LEVELS + 1)?;
-    assert!(rt; matches!(read(alloc, &deeper)?, Err(told) if told == (8, 12 + MOST_LEVELS)));
+    let most = negations(rt.alloc(), MOST_LEVELS)?;
+    assert_eq!(rt; told(rt.alloc(), most.as_slice()), Ok(1));
+    let deeper = negations(rt.alloc(), MOST_LEVELS + 1)?;
+    assert_eq!(rt; told(rt.alloc(), deeper.as_slice()), Err((8, 12 + MOST_LEVELS)));
     Ok(())
 }

