@@ -7,10 +7,10 @@ use std::test::Fail;
 
 const PROOF: &[u8] = b"vernacular 1. take []. mp a1 [] new [] gives p(c). as 1 [].";
 
-// The size of a proof of a ground problem, where it is accepted.
-fn accepted_size(alloc: Global, problem: &Problem, proof: &[u8]) -> Option<u32> {
+// The size of the proof for a ground problem, where it is accepted.
+fn accepted_size(alloc: Global, problem: &Problem) -> Option<u32> {
     match ground_formulas(alloc, problem) {
-        Ok(formulas) => check_first(alloc, formulas.as_slice(), proof).ok(),
+        Ok(formulas) => check_first(alloc, formulas.as_slice(), PROOF).ok(),
         Err(_) => None,
     }
 }
@@ -20,7 +20,7 @@ fn a_ground_problem_is_read_and_its_proof_accepted(rt: HostRuntime) -> Result<()
     let mut files = MemoryFiles::new(rt.alloc());
     files.insert(b"x.p", b"fof(a1,axiom,p(c)). fof(g,conjecture,p(c)).")?;
     let problem = flatten(rt.alloc(), &mut files, b"x.p")?;
-    assert!(rt; accepted_size(rt.alloc(), &problem, PROOF) == Some(2));
+    assert!(rt; accepted_size(rt.alloc(), &problem) == Some(2));
     Ok(())
 }
 

@@ -181,6 +181,9 @@ fn a_formula_opens_at_most_so_many_levels(rt: HostRuntime) -> Result<(), Fail> {
     let most = negations(rt.alloc(), MOST_LEVELS)?;
     assert_eq!(rt; told(rt.alloc(), most.as_slice()), Ok(1));
     let deeper = negations(rt.alloc(), MOST_LEVELS + 1)?;
-    assert_eq!(rt; told(rt.alloc(), deeper.as_slice()), Err((8, 12 + MOST_LEVELS)));
+    assert_eq!(rt;
+        told(rt.alloc(), deeper.as_slice()),
+        Err((8, 12 + MOST_LEVELS))
+    );
     Ok(())
 }
