@@ -68,6 +68,7 @@ fact_is signed args fact e =
 -- ---- the walk for a fact
 
 module _ (keys : List ℕ) (width : ℕ) (args : List ℕ) (entries : List Entry) (signed : ℕ) (sought : List ℕ) where
+  -- the bucket of the fact that is sought
   abbrev chain_key : ℕ
   chain_key = bucket_of width (record { signed = signed; args = sought })
 

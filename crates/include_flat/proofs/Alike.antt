@@ -31,6 +31,7 @@ entries_alike file selections others fof h = ap (λ (test : Bool). cond test (ke
 
 module _ (held : Held) where
   mutual
+    -- a walk over a file is one with selections that are alike
     walk_alike : (left : ℕ) (selections others : Selections) (file : Text) (entries : List Entry) → AreAlike selections others →
         WalksFile held left selections file entries → WalksFile held left others file entries
     walk_alike _ selections others file _ alike too_deep = too_deep
@@ -39,6 +40,7 @@ module _ (held : Held) where
     walk_alike _ selections others file _ alike (read {left = left} {entries = rest} bytes is short walk) =
         read bytes is short (bytes_alike left selections others file bytes rest alike walk)
 
+    -- a walk over bytes is one with selections that are alike
     bytes_alike : (left : ℕ) (selections others : Selections) (file bytes : Text) (entries : List Entry) → AreAlike selections others →
         WalksBytes held left selections file bytes entries → WalksBytes held left others file bytes entries
     bytes_alike left selections others file bytes _ alike (no_tokens refusal fault) = no_tokens refusal fault
@@ -46,6 +48,7 @@ module _ (held : Held) where
     bytes_alike left selections others file bytes entries alike (with_items ts items tokens text walk) =
         with_items ts items tokens text (items_alike left selections others file items entries alike walk)
 
+    -- a walk over items is one with selections that are alike
     items_alike : (left : ℕ) (selections others : Selections) (file : Text) (items : List Item) (entries : List Entry) →
         AreAlike selections others → WalksItems held left selections file items entries → WalksItems held left others file items entries
     items_alike left selections others file _ _ alike end = end
@@ -58,6 +61,7 @@ module _ (held : Held) where
         (items_alike left selections others file items rest alike walk) split
 
 module _ (left : ℕ) (selections others : Selections) (file : Text) (files later : Known) (before : Walked) (alike : AreAlike selections others) where
+  -- a file that is passed is passed with selections that are alike
   pub passes_alike : (after : Walked) → PassesOver (over_file left selections file) files later before after →
       PassesOver (over_file left others file) files later before after
   passes_alike after p = record {
@@ -69,6 +73,7 @@ module _ (left : ℕ) (selections others : Selections) (file : Text) (files late
     }) p.part;
   }
 
+  -- a file that is refused is refused with selections that are alike
   pub refuses_alike : (refused : Text) (why : FlatWhy) → RefusesOver (over_file left selections file) files later before refused why →
       RefusesOver (over_file left others file) files later before refused why
   refuses_alike refused why r = record {
@@ -81,10 +86,12 @@ module _ (left : ℕ) (selections others : Selections) (file : Text) (files late
 -- with one more selection
 module _ (left : ℕ) (selections others : Selections) (only : Option (List Text)) (names : List Text) (name file : Text) (files later : Known)
     (before : Walked) (is : only ≡ Some names) (same : name ≡ file) (alike : AreAlike selections (names ∷ others)) where
+  -- a file that is passed with one more selection is passed inside the inclusion that has it
   pub passes_within : (after : Walked) → PassesOver (over_file left selections name) files later before after →
       PassesOver (over_file left (with_selection only others) file) files later before after
   passes_within after p = rw is (passes_alike left selections (names ∷ others) file files later before alike after (rw same at p))
 
+  -- a file that is refused with one more selection is refused inside the inclusion that has it
   pub refuses_within : (refused : Text) (why : FlatWhy) → RefusesOver (over_file left selections name) files later before refused why →
       RefusesOver (over_file left (with_selection only others) file) files later before refused why
   refuses_within refused why r = rw is (refuses_alike left selections (names ∷ others) file files later before alike refused why (rw same at r))

@@ -21,6 +21,7 @@ from_start : (before : Walked) (entries : List Entry) → before.bytes ≡ 0 →
 from_start before entries bytes problem = λ i. decision_after (sym bytes i) (length (sym problem i)) entries
 
 module _ (held : Held) (name : Text) (before : Walked) (bytes : before.bytes ≡ 0) (problem : before.problem ≡ []) where
+  -- where a walk from the first file is passed, its formulas are the flat problem
   flat : (after : Walked) (read : List Fof) → read ≡ after.problem → PassesPart (over_file MOST_FILES [] name held) before after →
       IsFlat held name read
   flat after read is p = (
@@ -30,10 +31,12 @@ module _ (held : Held) (name : Text) (before : Walked) (bytes : before.bytes ≡
     is ∙ p.passed.problem ∙ ap (λ (fofs : List Fof). fofs ++ kept_of p.entries) problem,
   )
 
+  -- what decides the walk from the first file decides the problem
   decided_here : (file : Text) (why : FlatWhy) → (entries : List Entry) × over_file MOST_FILES [] name held entries ×
       (decided before entries ≡ Some (is_refused file why)) → IsFlatRefused held name file why
   decided_here file why (entries, walk, e) = (entries, walk, from_start before entries bytes problem ∙ e)
 
+  -- what refuses the walk from the first file refuses the problem
   flat_refusal : (file : Text) (why : FlatWhy) → Refuses (over_file MOST_FILES [] name held) before file why → IsFlatRefusal held name file why
   flat_refusal file Memory h = h
   flat_refusal file FileFault (front, entry, back, walk, asks, none) =
@@ -49,23 +52,29 @@ module _ (files later : Known) (name : Text) (selected : Option (List Text)) (be
     (bytes : before.bytes ≡ 0) (problem : before.problem ≡ []) where
   module _ (after : Walked) (read : List Fof) (is : read ≡ after.problem)
       (passes : PassesOver (over_file MOST_FILES (selections_of selected) name) files later before after) where
+    -- what is answered is the flat problem
     pub passed_whole : IfSome files.held (λ held. IsFlat held name read)
     passed_whole = where_told files.held _ _ (λ held p. flat held name before bytes problem after read is p) (rw all at passes).part
 
+    -- where there is a flat problem, the answer is that one
     pub found_list : IfSome files.held (λ held. (other : List Fof) → IsFlat held name other → read ≡ other)
     found_list = where_told files.held _ _ (λ held whole other flat. one_list held name other read flat whole) passed_whole
 
+    -- where formulas are answered, nothing refuses the problem
     pub told_list : IfSome files.held (λ held. (file : Text) (why : FlatWhy) → IsFlatRefused held name file why → ⊥)
     told_list = where_told files.held _ _ (λ held whole file why refused. never_both held name read file why whole refused) passed_whole
 
   module _ (file : Text) (why : FlatWhy)
       (refuses : RefusesOver (over_file MOST_FILES (selections_of selected) name) files later before file why) where
+    -- what is refused is refused for its reason
     pub refused_whole : IfSome files.held (λ held. IsFlatRefusal held name file why)
     refused_whole = where_told files.held _ _ (λ held r. flat_refusal held name before bytes problem file why r) (rw all at refuses).ends
 
+    -- where there is a flat problem, a refusal comes from outside
     pub found_refusal : IfSome files.held (λ held. (other : List Fof) → IsFlat held name other → IsOutside why)
     found_refusal = where_told files.held _ _ (λ held refusal other flat. not_refused held name other file why flat refusal) refused_whole
 
+    -- where there is a refusal, the answer is that one, or comes from outside
     pub told_refusal : IfSome files.held (λ held. (other : Text) (reason : FlatWhy) → IsFlatRefused held name other reason →
         IsOutside why ⊎ ((file ≡ other) × (why ≡ reason)))
     told_refusal = where_told files.held _ _ (λ held refusal other reason refused.

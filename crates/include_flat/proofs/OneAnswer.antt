@@ -13,6 +13,7 @@ use Rattle.include_flat.proofs.OneWalk.{one_walk}
 use Rattle.include_flat.proofs.SomeWalk.{some_walk}
 
 module _ (held : Held) (name : Text) where
+  -- two walks from a first file are the same
   one_of_both : (a b : List Entry) → Walks held name a → Walks held name b → a ≡ b
   one_of_both a b first second = one_walk held MOST_FILES [] name a b first second
 

@@ -65,6 +65,7 @@ passes_on before middle after front rest p q = record {
 -- a refusal ends a walk amid what is passed and what goes on
 module _ (All Part : List Entry → Type 0) (before middle : Walked) (front back : List Entry) (p : Passes before front middle)
     (lead : (part : List Entry) → Part part → All (front ++ (part ++ back))) where
+  -- what decides a part of a walk decides the whole
   decided_amid : (file : Text) (why : FlatWhy) → (part : List Entry) × Part part × (decided middle part ≡ Some (is_refused file why)) →
       (entries : List Entry) × All entries × (decided before entries ≡ Some (is_refused file why))
   decided_amid file why (part, walk, e) = (
@@ -73,6 +74,7 @@ module _ (All Part : List Entry → Type 0) (before middle : Walked) (front back
     decided_on before middle front (part ++ back) p ∙ decided_front middle.bytes (length middle.problem) part back (is_refused file why) e,
   )
 
+  -- a file that is asked for in a part of a walk is asked for in the whole
   asked_amid : (file : Text) → AsksAt Part middle file → AsksAt All before file
   asked_amid file (first, entry, last, walk, asks, none) = (
     front ++ first,
@@ -84,6 +86,7 @@ module _ (All Part : List Entry → Type 0) (before middle : Walked) (front back
     decided_on before middle front first p ∙ none,
   )
 
+  -- what refuses a part of a walk refuses the whole
   refuses_amid : (file : Text) (why : FlatWhy) → Refuses Part middle file why → Refuses All before file why
   refuses_amid file Memory h = h
   refuses_amid file FileFault h = asked_amid file h
@@ -108,11 +111,13 @@ depth_refused_at held left selections name before e =
 
 -- the items of a file are walked behind its fetch
 module _ (held : Held) (selections : Selections) (name : Text) (items : List Item) (before middle : Walked) (opens : OpensTo held name items before middle) where
+  -- a walk over the items of a file is one over the file
   opened : (left : ℕ) (rest : List Entry) → WalksItems held left selections name items rest →
       WalksFile held (suc left) selections name (fetched name (length opens.bytes) ∷ [] ++ rest)
   opened left rest walk = let (ts, tokens, text) = opens.read in
       read opens.bytes opens.held_is opens.short (with_items ts items tokens text walk)
 
+  -- a file is passed where its items are
   file_passes_at : (left : ℕ) (after : Walked) → PassesPart (over_items left selections name items held) middle after →
       PassesPart (over_file (suc left) selections name held) before after
   file_passes_at left after p = record {
@@ -121,6 +126,7 @@ module _ (held : Held) (selections : Selections) (name : Text) (items : List Ite
     passed = passes_on before middle after (fetched name (length opens.bytes) ∷ []) p.entries opens.passed p.passed;
   }
 
+  -- a file is refused where its items are
   file_refuses_at : (left : ℕ) (file : Text) (why : FlatWhy) → Refuses (over_items left selections name items held) middle file why →
       Refuses (over_file (suc left) selections name held) before file why
   file_refuses_at left file why h =
@@ -143,6 +149,7 @@ one_more : (left : ℕ) → 0 < left → suc (left - 1) ≡ left
 one_more left some = omega arith
 
 module _ (selections : Selections) (name copy : Text) (files later : Known) (before : Walked) (left : ℕ) (same_name : copy ≡ name) where
+  -- a file one level too deep is refused
   pub depth_refused : (file : Text) (why : FlatWhy) → left ≡ 0 → Stays files later → file ≡ copy → why ≡ IncludeDepth →
       RefusesOver (over_file left selections name) files later before file why
   depth_refused file why none stays is reason = let P : Text → FlatWhy → Type 0 = RefusesOver (over_file left selections name) files later before in
@@ -152,6 +159,7 @@ module _ (selections : Selections) (name copy : Text) (files later : Known) (bef
         ends = wherever_told files.held _ (λ held. depth_refused_at held left selections name before none);
       }))
 
+  -- a file that does not open is refused for its reason
   pub file_refused : (file : Text) (why reason : FlatWhy) → 0 < left → Refused files later name before reason → file ≡ refused_file copy reason →
       why ≡ reason → RefusesOver (over_file left selections name) files later before file why
   file_refused file why reason some h is same = let P : Text → FlatWhy → Type 0 = RefusesOver (over_file left selections name) files later before in
@@ -163,6 +171,7 @@ module _ (selections : Selections) (name copy : Text) (files later : Known) (bef
       }))
 
   module _ (middle : Known) (items : List Item) (between : Walked) (some : 0 < left) (opens : Opens files middle name items before between) where
+    -- a file that opens is passed where its items are
     pub file_passes : (after : Walked) → PassesOver (over_items (left - 1) selections copy items) middle later between after →
         PassesOver (over_file left selections name) files later before after
     file_passes after passes = let p = rw same_name at passes in record {
@@ -172,6 +181,7 @@ module _ (selections : Selections) (name copy : Text) (files later : Known) (bef
           (file_passes_at held selections name items before between o (left - 1) after w)) opens.opens p.part;
     }
 
+    -- a file that opens is refused where its items are
     pub file_refuses : (file : Text) (why : FlatWhy) → RefusesOver (over_items (left - 1) selections copy items) middle later between file why →
         RefusesOver (over_file left selections name) files later before file why
     file_refuses file why refuses = let r = rw same_name at refuses in record {
@@ -200,6 +210,7 @@ pub record Passed (held : Held) (left : ℕ) (selections : Selections) (file : T
   pub passed : Passes before entries now
 
 module _ (held : Held) (left : ℕ) (selections : Selections) (file : Text) (items : List Item) (before : Walked) where
+  -- a formula is passed with the items before it
   pub formula_passed : (fof : Fof) (rest : List Item) (now after : Walked) → Passed held left selections file items (ItemFof fof ∷ rest) before now →
       Passes now (kept_entries file selections fof) after → Passed held left selections file items rest before after
   formula_passed fof rest now after p q = record {
@@ -209,6 +220,7 @@ module _ (held : Held) (left : ℕ) (selections : Selections) (file : Text) (ite
     passed = passes_on before now after p.entries (kept_entries file selections fof) p.passed q;
   }
 
+  -- an inclusion is passed with the items before it
   pub inclusion_passed : (name : Text) (only : Option (List Text)) (rest : List Item) (now after : Walked) →
       Passed held left selections file items (Include name only ∷ rest) before now →
       PassesPart (over_file left (with_selection only selections) name held) now after → Passed held left selections file items rest before after
@@ -219,6 +231,7 @@ module _ (held : Held) (left : ℕ) (selections : Selections) (file : Text) (ite
     passed = passes_on before now after p.entries q.entries p.passed q.passed;
   }
 
+  -- items are passed where none is left
   pub all_passed : (after : Walked) → Passed held left selections file items [] before after →
       PassesPart (over_items left selections file items held) before after
   all_passed after p = record {
@@ -227,6 +240,7 @@ module _ (held : Held) (left : ℕ) (selections : Selections) (file : Text) (ite
     passed = p.passed;
   }
 
+  -- a formula that is one too many refuses the items
   pub formula_refused : (fof : Fof) (rest : List Item) (now : Walked) → Passed held left selections file items (ItemFof fof ∷ rest) before now →
       IsTooMany now selections fof → Refuses (over_items left selections file items held) before file TooManyFormulas
   formula_refused fof rest now p many =
@@ -238,6 +252,7 @@ module _ (held : Held) (left : ℕ) (selections : Selections) (file : Text) (ite
             decided_front now.bytes (length now.problem) kept more.entries (is_refused file TooManyFormulas) (many file),
       )
 
+  -- what refuses an included file refuses the items
   pub inclusion_refused : (name : Text) (only : Option (List Text)) (rest : List Item) (now : Walked) (refused : Text) (why : FlatWhy) →
       Passed held left selections file items (Include name only ∷ rest) before now →
       Refuses (over_file left (with_selection only selections) name held) now refused why →
@@ -253,6 +268,7 @@ pub record Underway (files now : Known) (left : ℕ) (selections : Selections) (
   pub passed : IfSome files.held (λ held. Passed held left selections file items rest before walked)
 
 module _ (files now : Known) (left : ℕ) (selections : Selections) (file : Text) (items : List Item) (before walked : Walked) where
+  -- where no item is left, the walk has passed them all
   pub underway_all : (rest : List Item) → rest ≡ [] → Underway files now left selections file items rest before walked →
       PassesOver (over_items left selections file items) files now before walked
   underway_all rest none under = let u = rw none at under in record {
@@ -261,9 +277,11 @@ module _ (files now : Known) (left : ℕ) (selections : Selections) (file : Text
   }
 
   module _ (all rest : List Item) (item : Item) (next : all ≡ item ∷ rest) (under : Underway files now left selections file items all before walked) where
+    -- the walk is underway at the item that it looks at
     underway_at : (other : Item) → item ≡ other → Underway files now left selections file items (other ∷ rest) before walked
     underway_at other is = rw (next, is) at under
 
+    -- behind a formula that is passed the walk goes on
     pub formula_on : (fof : Fof) (after : Walked) → item ≡ ItemFof fof → ((name : Text) → Passes walked (kept_entries name selections fof) after) →
         Underway files now left selections file items rest before after
     formula_on fof after is q = let u = underway_at (ItemFof fof) is in record {
@@ -271,6 +289,7 @@ module _ (files now : Known) (left : ℕ) (selections : Selections) (file : Text
       passed = where_told files.held _ _ (λ held p. formula_passed held left selections file items before fof rest walked after p (q file)) u.passed;
     }
 
+    -- a walk ends at a formula that is one too many
     formula_too_many : (fof : Fof) → item ≡ ItemFof fof → IsTooMany walked selections fof →
         RefusesOver (over_items left selections file items) files now before file TooManyFormulas
     formula_too_many fof is many = let u = underway_at (ItemFof fof) is in record {
@@ -279,6 +298,7 @@ module _ (files now : Known) (left : ℕ) (selections : Selections) (file : Text
       ends = where_told files.held _ _ (λ held p. formula_refused held left selections file items before fof rest walked p many) u.passed;
     }
 
+    -- a walk ends at a formula that is refused, for its reason
     pub formula_ends : (fof : Fof) (copy refused : Text) (why reason : FlatWhy) → item ≡ ItemFof fof →
         (reason ≡ Memory) ⊎ ((reason ≡ TooManyFormulas) × IsTooMany walked selections fof) → copy ≡ file → refused ≡ refused_file copy reason →
         why ≡ reason → RefusesOver (over_items left selections file items) files now before refused why
@@ -290,6 +310,7 @@ module _ (files now : Known) (left : ℕ) (selections : Selections) (file : Text
         subst (λ x. P x why) (sym (named ∙ ap (refused_file copy) full ∙ same)) (subst (P file) (sym (caused ∙ full)) (formula_too_many fof is many))
 
     module _ (name : Text) (only : Option (List Text)) (later : Known) (is : item ≡ Include name only) where
+      -- behind an inclusion that is passed the walk goes on
       pub inclusion_on : (after : Walked) → PassesOver (over_file left (with_selection only selections) name) now later walked after →
           Underway files later left selections file items rest before after
       inclusion_on after q = let u = underway_at (Include name only) is in record {
@@ -298,6 +319,7 @@ module _ (files now : Known) (left : ℕ) (selections : Selections) (file : Text
             (λ held p w. inclusion_passed held left selections file items before name only rest walked after p w) u.passed q.part;
       }
 
+      -- a walk ends at an inclusion that is refused, for its reason
       pub inclusion_ends : (refused : Text) (why : FlatWhy) →
           RefusesOver (over_file left (with_selection only selections) name) now later walked refused why →
           RefusesOver (over_items left selections file items) files later before refused why

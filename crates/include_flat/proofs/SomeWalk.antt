@@ -36,16 +36,19 @@ module _ (held : Held) where
     pub entries : List Entry
     pub walk : WalksFile held left selections file entries
 
+  -- a walk over bytes
   pub record HasWalkOfBytes (left : ℕ) (selections : Selections) (file bytes : Text) : Type 0 where
     pub entries : List Entry
     pub walk : WalksBytes held left selections file bytes entries
 
+  -- a walk over items
   pub record HasWalkOfItems (left : ℕ) (selections : Selections) (file : Text) (items : List Item) : Type 0 where
     pub entries : List Entry
     pub walk : WalksItems held left selections file items entries
 
   -- with one level less
   module _ (left : ℕ) (inner : (selections : Selections) (file : Text) → HasWalk left selections file) (selections : Selections) (file : Text) where
+    -- items have a walk where the files below have one
     items_walk : (items : List Item) → HasWalkOfItems left selections file items
     items_walk [] = record { entries = []; walk = end }
     items_walk (ItemFof fof ∷ items) =
@@ -56,6 +59,7 @@ module _ (held : Held) where
         let rest = items_walk items in
         record { entries = front.entries ++ rest.entries; walk = inclusion name only front.entries rest.entries front.walk rest.walk refl }
 
+    -- bytes have a walk where the files below have one
     bytes_walk : (bytes : Text) → HasWalkOfBytes left selections file bytes
     bytes_walk bytes = by (some_answer bytes)
       where
@@ -71,6 +75,7 @@ module _ (held : Held) where
         by (inl (ts, tokens)) = by_items ts tokens (items_or_refusal bytes ts tokens)
         by (inr (refusal, fault)) = record { entries = stop file (Lex refusal) ∷ []; walk = no_tokens refusal fault }
 
+    -- a file has a walk where the files below have one
     file_walk : HasWalk (suc left) selections file
     file_walk = by (finite.get held file) refl
       where

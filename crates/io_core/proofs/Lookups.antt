@@ -51,6 +51,7 @@ other_names test old new h = h
 module _ (old new : Entries) (key value : Vec ℕ)
     (here : lookup (has_name key.items) new ≡ Some value)
     (others : KeepsOthers (λ x y. pointwise nat_eq x.items y.items) (has_name key.items) old new) where
+  -- the tests for two names that differ are apart
   apart : (name : List ℕ) → pointwise nat_eq name key.items ≡ false → AreApart (has_name key.items) (has_name name)
   apart name n k y =
       nat_list_eq_equiv.symm name k.items
@@ -58,6 +59,7 @@ module _ (old new : Entries) (key value : Vec ℕ)
       ∙ nat_list_eq_equiv.symm key.items name
       ∙ n
 
+  -- the new table has the value under its key, and under any other name what the old one has
   at_name : (name : List ℕ) (b : Bool) → pointwise nat_eq name key.items ≡ b
       → option_map (λ v. v.items) (lookup (has_name name) new) ≡ cond b (Some value.items) (option_map (λ v. v.items) (lookup (has_name name) old))
   at_name name true e =

@@ -174,12 +174,15 @@ shown None a e = absurd (cc)
 shown (Some b) a e = (b, refl, atoms_told b a e)
 
 module _ (problem : List GroundFormula) (goal : GroundAtom) (one_goal : goals_of problem ≡ goal ∷ []) where
+  -- the form at the number of an axiom is that of its atom
   form_at : (at : ℕ) (g : GroundFormula) → slice_get (axioms_of problem) at ≡ Some g → slice_get (task_of problem).forms at ≡ Some (form_of (tables_of problem) g.atom)
   form_at at g get = slice_get-map (λ (h : GroundFormula). form_of (tables_of problem) h.atom) (axioms_of problem) at ∙ ap (λ o. option_map (λ (h : GroundFormula). form_of (tables_of problem) h.atom) o) get
 
+  -- the goal of the task is the form of the goal
   pub goal_is : (task_of problem).goal ≡ form_of (tables_of problem) goal
   goal_is = ap (goal_form (tables_of problem)) one_goal
 
+  -- where the goal stands, the answer closes
   closes : (context : Context) → Stands context (atom_of (tables_of problem) goal) → Closes (task_of problem) (As 1 []) context
   closes context stands = record {
     atoms = atom_of (tables_of problem) goal ∷ [];
@@ -189,12 +192,14 @@ module _ (problem : List GroundFormula) (goal : GroundAtom) (one_goal : goals_of
     stand = (subst (Stands context) (sym (ground_stays (parameters (task_of problem) ++ []) (tables_of problem) goal)) stands, tt);
   }
 
+  -- where the answer closes, the goal stands
   closed_by : (context : Context) → Closes (task_of problem) (As 1 []) context → Stands context (atom_of (tables_of problem) goal)
   closed_by context answer =
       let atoms : answer.atoms ≡ atom_of (tables_of problem) goal ∷ [] = value_same (sym answer.disjunct_is ∙ ap (λ (f : Form). slice_get f.disjuncts 0) goal_is) in
       let stand = (subst (AllByRecursion (λ a. Stands context (atom_at (parameters (task_of problem) ++ []) a))) atoms answer.stand).0 in
       subst (Stands context) (ground_stays (parameters (task_of problem) ++ []) (tables_of problem) goal) stand
 
+  -- steps that the check accepts stand for applications that lead to the goal
   steps_accepted : (ss : List CitedFact) (stands : Bool) (context : Context) → (stands ≡ true → Stands context (atom_of (tables_of problem) goal))
       → accepts problem goal stands ss ≡ true
       → (mps : List Mp) × StepsStand (axioms_of problem) ss mps × StepsThen (task_of problem) mps (Closes (task_of problem) (As 1 [])) context × (length mps ≡ length ss)
@@ -227,6 +232,7 @@ module _ (problem : List GroundFormula) (goal : GroundAtom) (one_goal : goals_of
         ap suc count,
       )
 
+  -- there is one form at a number
   same_form : (at : ℕ) (f g : Form) → slice_get (task_of problem).forms at ≡ Some f → slice_get (task_of problem).forms at ≡ Some g → f ≡ g
   same_form at f g one two = value_same (sym one ∙ two)
 
@@ -247,6 +253,7 @@ module _ (problem : List GroundFormula) (goal : GroundAtom) (one_goal : goals_of
       names : atom_at (args ++ []) (atom_of (tables_of problem) g.atom) ≡ atom_of (tables_of problem) goal → g.atom ≡ goal
       names same = atom_same problem g.atom goal (is_in problem g among) of_goal (sym (ground_stays (args ++ []) (tables_of problem) g.atom) ∙ same)
 
+  -- steps that stand for applications which lead to the goal are accepted
   steps_needed : (ss : List CitedFact) (mps : List Mp) (stands : Bool) (context : Context) → StepsStand (axioms_of problem) ss mps
       → StepsThen (task_of problem) mps (Closes (task_of problem) (As 1 [])) context → (Stands context (atom_of (tables_of problem) goal) → stands ≡ true)
       → accepts problem goal stands ss ≡ true

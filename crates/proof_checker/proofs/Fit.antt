@@ -1,9 +1,10 @@
--- Ground problems: what is found is the one list of formulas, with at most 32 arguments each and one conjecture.
+-- Ground problems: what is found is the one list of formulas, with at most `MOST_ARGUMENTS` arguments each and one conjecture.
 use Rattle.std.specs.Prelude.{◌≡◌, ◌≤◌, ◌+◌, ◌==◌, map, cond, ℕ, Bool, true, false, not, if◌then◌else◌, nat_le, List, [], ◌∷◌, length, count_by, refl}
 use Rattle.std.specs.List.{AllByRecursion, list_all}
 use Rattle.std.proofs.lemmas.List.Recursion.{is_count_by}
 use Rattle.std.proofs.Common.{ap, sym, ◌∙◌, arith}
 use Rattle.text_core.specs.Names.{Text}
+use Rattle.text_core.specs.declared.limits.TheConstants.{MOST_ARGUMENTS}
 use Rattle.logic_core.specs.declared.formula.Term.{Term}
 use Rattle.logic_core.specs.declared.formula.Term.TheVariants.{Constant}
 use Rattle.logic_core.specs.declared.formula.Formula.{Pred}
@@ -23,15 +24,15 @@ le_from : (m n : ℕ) → m ≤ n → nat_le m n ≡ true
 le_from m n e = grind arith
 
 -- formulas for which the test passes have no more arguments each than allowed
-narrow_told : (gs : List GroundFormula) → list_all (λ (g : GroundFormula). nat_le (length g.atom.args) 32) gs ≡ true → AllByRecursion (λ (g : GroundFormula). length g.atom.args ≤ 32) gs
+narrow_told : (gs : List GroundFormula) → list_all (λ (g : GroundFormula). nat_le (length g.atom.args) MOST_ARGUMENTS) gs ≡ true → AllByRecursion (λ (g : GroundFormula). length g.atom.args ≤ MOST_ARGUMENTS) gs
 narrow_told [] e = tt
-narrow_told (g ∷ gs) e = let k = and_both (nat_le (length g.atom.args) 32) (list_all (λ (h : GroundFormula). nat_le (length h.atom.args) 32) gs) e in
-    (le_told (length g.atom.args) 32 k.0, narrow_told gs k.1)
+narrow_told (g ∷ gs) e = let k = and_both (nat_le (length g.atom.args) MOST_ARGUMENTS) (list_all (λ (h : GroundFormula). nat_le (length h.atom.args) 32) gs) e in
+    (le_told (length g.atom.args) MOST_ARGUMENTS k.0, narrow_told gs k.1)
 
 -- the test passes for formulas that have no more arguments each than allowed
-narrow_from : (gs : List GroundFormula) → AllByRecursion (λ (g : GroundFormula). length g.atom.args ≤ 32) gs → list_all (λ (g : GroundFormula). nat_le (length g.atom.args) 32) gs ≡ true
+narrow_from : (gs : List GroundFormula) → AllByRecursion (λ (g : GroundFormula). length g.atom.args ≤ MOST_ARGUMENTS) gs → list_all (λ (g : GroundFormula). nat_le (length g.atom.args) MOST_ARGUMENTS) gs ≡ true
 narrow_from [] all = refl
-narrow_from (g ∷ gs) all = rw (le_from (length g.atom.args) 32 all.0, narrow_from gs all.1)
+narrow_from (g ∷ gs) all = rw (le_from (length g.atom.args) MOST_ARGUMENTS all.0, narrow_from gs all.1)
 
 -- a further formula adds one goal where it is no premise, and none where it is one
 goals_step : (g : GroundFormula) (gs : List GroundFormula) → length (goals_of (g ∷ gs)) ≡ cond (not (is_premise g.role)) (1 + length (goals_of gs)) (length (goals_of gs))
@@ -83,14 +84,17 @@ formula_same g h e =
     λ i. record { name = name i; role = role i; atom = atom i }
 
 module _ (problem : List Fof) (gs : List GroundFormula) (are : problem ≡ map fof_of gs) where
+  -- a problem is that of one list of ground formulas
   pub one_list : (hs : List GroundFormula) → IsGroundProblem problem hs → gs ≡ hs
   one_list hs is = map_same fof_of formula_same gs hs (sym are ∙ is.are)
 
+  -- formulas that pass the test are a ground problem
   pub fit_is : is_fit gs ≡ true → IsGroundProblem problem gs
   fit_is fit =
-      let k = and_both (list_all (λ (g : GroundFormula). nat_le (length g.atom.args) 32) gs) (length (goals_of gs) == 1) fit in
+      let k = and_both (list_all (λ (g : GroundFormula). nat_le (length g.atom.args) MOST_ARGUMENTS) gs) (length (goals_of gs) == 1) fit in
       record { are = are; narrow = narrow_told gs k.0; one_goal = number_same (length (goals_of gs)) 1 k.1 }
 
+  -- formulas that do not pass the test are no ground problem
   pub is_unfit : is_fit gs ≡ false → (hs : List GroundFormula) → IsGroundProblem problem hs → ⊥
   is_unfit unfit hs is =
       let same = one_list hs is in

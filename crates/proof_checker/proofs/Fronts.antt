@@ -80,4 +80,5 @@ args-no_word [] w = refl
 args-no_word (t ∷ []) w = refl
 args-no_word (t ∷ m ∷ ms) w = rw (passed_over (is_word_from is_lower t) (t, m ∷ ms) w)
 
+-- what the loops over arguments may use
 pub ruleset fronts = (args-more, args-last, args-none, args-no_word, with_front-nil, with_front-append)

@@ -37,6 +37,7 @@ symbols_told = record {
 }
 
 module _ {X : Type 0} (same : X → X → Bool) (tells : TellsSame same) where
+  -- a member of a list is still there with one more, whether that one is the head or not
   stays_by : (x head y : X) (ys rest : List X) (b : Bool) → same head y ≡ b → (IsAmong x ys → (head ≡ x) ⊎ IsAmong x rest) → (y ≡ x) ⊎ IsAmong x ys
       → (head ≡ x) ⊎ IsAmong x (if b then rest else y ∷ rest)
   stays_by x head y ys rest true e go (inl here) = inl (tells.told head y e ∙ here)
@@ -44,21 +45,25 @@ module _ {X : Type 0} (same : X → X → Bool) (tells : TellsSame same) where
   stays_by x head y ys rest false e go (inl here) = inr (inl here)
   stays_by x head y ys rest false e go (inr later) = elim (go later) [ inl same ↦ inl same | inr among ↦ inr (inr among) ]
 
+  -- a member of a list is the head, or is still there without the head
   stays : (x head : X) (ys : List X) → IsAmong x ys → (head ≡ x) ⊎ IsAmong x (others same head ys)
   stays x head [] here = absurd here
   stays x head (y ∷ ys) here = stays_by x head y ys (others same head ys) (same head y) refl (stays x head ys) here
 
+  -- a member of a list is a member of the list without repetitions
   pub kept : (x : X) (xs : List X) → IsAmong x xs → IsAmong x (once same xs)
   kept x [] here = absurd here
   kept x (y ∷ ys) (inl here) = inl here
   kept x (y ∷ ys) (inr later) = stays x y (once same ys) (kept x ys later)
 
+  -- a member of a list is at its number with one more in front, whether it is that one or not
   placed_by : (x y : X) (ys : List X) (n : ℕ) (b : Bool) → same x y ≡ b → (IsAmong x ys → slice_get ys n ≡ Some x) → (y ≡ x) ⊎ IsAmong x ys
       → slice_get (y ∷ ys) (if b then 0 else suc n) ≡ Some x
   placed_by x y ys n true e go here = ap Some (sym (tells.told x y e))
   placed_by x y ys n false e go (inl here) = let yes : same x y ≡ true = ap (same x) here ∙ tells.itself x in absurd (cc)
   placed_by x y ys n false e go (inr later) = go later
 
+  -- a member of a list is at its number
   pub placed : (x : X) (ys : List X) → IsAmong x ys → slice_get ys (number_of same x ys) ≡ Some x
   placed x [] here = absurd here
   placed x (y ∷ ys) here = placed_by x y ys (number_of same x ys) (same x y) refl (placed x ys) here

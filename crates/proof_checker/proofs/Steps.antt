@@ -41,4 +41,5 @@ steps-end (suc left) rest word = rw word
 pub steps-all : (fs : List CitedFact) → with_front fs (Some ([], [])) ≡ Some (fs, [])
 steps-all fs = ap (λ gs. Some (gs, [])) (append-nil fs)
 
+-- what the loop over the steps of a proof may use
 pub ruleset steps = (with_front-nil, with_front-append, steps-read, steps-none, steps-full, steps-end, steps-all)

@@ -27,6 +27,7 @@ module _ {X : Type 0} (Is : List Text → X → Type 0) where
   no_cause bytes value fault.NotBuilt is other cause = cause.1 value is
   no_cause bytes value fault.Memory is other cause = other refl
 
+  -- two causes for one text are the same, up to want of memory
   one_cause : (bytes : Text) (a b : NotRead) → IsUnread Spells bytes a → b ≢ fault.Memory → IsUnread Spells bytes b → (a ≡ b) ⊎ (a ≡ fault.Memory)
   one_cause bytes fault.Memory b first other second = inr refl
   one_cause bytes a fault.Memory first other second = absurd (other refl)
@@ -35,6 +36,7 @@ module _ {X : Type 0} (Is : List Text → X → Type 0) where
   one_cause bytes fault.NotBuilt (fault.Lexical s) first other second = absurd (never_both bytes first.0.0 s first.0.1 second)
   one_cause bytes fault.NotBuilt fault.NotBuilt first other second = inl refl
 
+  -- where there is a cause, the answer is that one, up to want of memory
   pub told : (bytes : Text) (result : Result X NotRead) → IfOk result (Spells bytes) → IfErr result (IsUnread Spells bytes)
       → (a : NotRead) → a ≢ fault.Memory → IsUnread Spells bytes a → MatchResult result (λ value. ⊥) (λ b. (b ≡ a) ⊎ (b ≡ fault.Memory))
   told bytes (Ok value) read refused a other cause = no_cause bytes value a read other cause
@@ -54,6 +56,7 @@ module _ (problem : List GroundFormula) (bytes : Text) where
       cause.none by.body (subst (λ steps. IsAccepted problem steps by.body) (one_proof_in bytes by.steps cause.steps by.spelled cause.spelled) by.accepted)
   accepted_cause size Memory by other cause = other refl
 
+  -- two refusals of one text are the same, up to want of memory
   one_refusal : (a b : FirstRefusal) → IsRefusedAs problem bytes a → b ≢ Memory → IsRefusedAs problem bytes b → (a ≡ b) ⊎ (a ≡ Memory)
   one_refusal Memory b first other second = inr refl
   one_refusal a Memory first other second = absurd (other refl)
@@ -67,6 +70,7 @@ module _ (problem : List GroundFormula) (bytes : Text) where
   one_refusal Refused NotBuilt first other second = absurd (second.1 first.steps first.spelled)
   one_refusal Refused Refused first other second = inl refl
 
+  -- where there is a refusal, the answer is that one, up to want of memory
   pub told_first : (result : Result ℕ FirstRefusal) → IfOk result (AcceptsWith problem bytes) → IfErr result (IsRefusedAs problem bytes)
       → (a : FirstRefusal) → a ≢ Memory → IsRefusedAs problem bytes a → MatchResult result (λ size. ⊥) (λ b. (b ≡ a) ⊎ (b ≡ Memory))
   told_first (Ok size) accepted refused a other cause = accepted_cause size a accepted other cause

@@ -52,6 +52,7 @@ if_conjecture Corollary P p h = absurd (cc)
 if_conjecture NegatedConjecture P p h = absurd (cc)
 
 module _ (s : Structure) (problem : List GroundFormula) where
+  -- constants by numbers have the values that they have by names
   values_same : (vs : List ℕ) (xs : List Text)
       → AllByRecursion (λ c. slice_get (tables_of problem).constants (number_of bytes_eq c (tables_of problem).constants) ≡ Some c) xs
       → map (slot_value (interpretation s (tables_of problem)) vs) (map (λ c. Constant (number_of bytes_eq c (tables_of problem).constants)) xs)
@@ -66,6 +67,7 @@ module _ (s : Structure) (problem : List GroundFormula) where
   holds_same vs a is = ap (λ o. holds_by_name s o (map (slot_value (interpretation s (tables_of problem)) vs) (atom_of (tables_of problem) a).args)) is.symbol
       ∙ ap (s.holds a.predicate) (values_same vs a.args is.constants)
 
+  -- the form of an atom is true where the atom is
   form_true : (a : GroundAtom) → IsIn problem a → s.holds a.predicate (map (term_value s []) (map ConstantTerm a.args)) ≡ true
       → FormTrue (interpretation s (tables_of problem)) (form_of (tables_of problem) a)
   form_true a is holds universals are premises = record {
@@ -74,6 +76,7 @@ module _ (s : Structure) (problem : List GroundFormula) where
     holds = inl ((holds_same (universals ++ []) a is ∙ holds, tt));
   }
 
+  -- the forms of the axioms are true with one more formula, whether it is a premise or not
   axioms_by : (g : GroundFormula) (gs : List GroundFormula) (premise : Bool) → is_premise g.role ≡ premise → IsIn problem g.atom
       → IfPremise g.role (IsTrueIn s (fof_of g).formula [])
       → AllByRecursion (FormTrue (interpretation s (tables_of problem))) (map (λ (h : GroundFormula). form_of (tables_of problem) h.atom) (axioms_of gs))
@@ -81,12 +84,14 @@ module _ (s : Structure) (problem : List GroundFormula) where
   axioms_by g gs true p is holds rest = (form_true g.atom is (if_premise g.role (IsTrueIn s (fof_of g).formula []) p holds), rest)
   axioms_by g gs false p is holds rest = rest
 
+  -- the forms of the axioms are true where the premises are
   axioms_true : (gs : List GroundFormula) → ((g : GroundFormula) → IsAmong g gs → IsIn problem g.atom)
       → AllByRecursion (λ fof. IfPremise fof.role (IsTrueIn s fof.formula [])) (map fof_of gs)
       → AllByRecursion (FormTrue (interpretation s (tables_of problem))) (map (λ (h : GroundFormula). form_of (tables_of problem) h.atom) (axioms_of gs))
   axioms_true [] known all = tt
   axioms_true (g ∷ gs) known all = axioms_by g gs (is_premise g.role) refl (known g (inl refl)) all.0 (axioms_true gs (λ h here. known h (inr here)) all.1)
 
+  -- the conjecture is true with one more formula, whether it is a premise or not
   conjecture_by : (g : GroundFormula) (gs : List GroundFormula) (goal : GroundAtom) (more : List GroundAtom) (premise : Bool) → is_premise g.role ≡ premise
       → (if premise then goals_of gs else g.atom ∷ goals_of gs) ≡ goal ∷ more → s.holds goal.predicate (map (term_value s []) (map ConstantTerm goal.args)) ≡ true
       → (goals_of gs ≡ goal ∷ more → SomeOf (λ fof. IfConjecture fof.role (IsTrueIn s fof.formula [])) (map fof_of gs))
@@ -98,36 +103,43 @@ module _ (s : Structure) (problem : List GroundFormula) where
       same : g.atom ∷ goals_of gs ≡ goal ∷ more → g.atom ≡ goal
       same e = cc
 
+  -- the conjecture is true where its atom is
   conjecture_true : (gs : List GroundFormula) (goal : GroundAtom) (more : List GroundAtom) → goals_of gs ≡ goal ∷ more
       → s.holds goal.predicate (map (term_value s []) (map ConstantTerm goal.args)) ≡ true
       → SomeOf (λ fof. IfConjecture fof.role (IsTrueIn s fof.formula [])) (map fof_of gs)
   conjecture_true [] goal more e holds = absurd (cc)
   conjecture_true (g ∷ gs) goal more e holds = conjecture_by g gs goal more (is_premise g.role) refl e holds (λ later. conjecture_true gs goal more later holds)
 
+  -- the arguments of an atom are below the number of constants
   slots_below : (xs : List Text) (variables : ℕ)
       → AllByRecursion (λ c. slice_get (tables_of problem).constants (number_of bytes_eq c (tables_of problem).constants) ≡ Some c) xs
       → AllByRecursion (SlotIsBelow variables (length (tables_of problem).constants)) (map (λ c. Constant (number_of bytes_eq c (tables_of problem).constants)) xs)
   slots_below [] variables all = tt
   slots_below (x ∷ xs) variables all = (slice_get_within (tables_of problem).constants (number_of bytes_eq x (tables_of problem).constants) x all.0, slots_below xs variables all.1)
 
+  -- the form of an atom of the problem is well formed
   form_fits : (a : GroundAtom) → IsIn problem a → IsWellFormed (length (tables_of problem).constants) (form_of (tables_of problem) a)
   form_fits a is = record { premises = tt; disjuncts = ((slots_below a.args (0 + 0) is.constants, tt), tt) }
 
+  -- the forms of the axioms are well formed with one more formula, whether it is a premise or not
   fits_by : (g : GroundFormula) (gs : List GroundFormula) (premise : Bool) → IsIn problem g.atom
       → AllByRecursion (IsWellFormed (length (tables_of problem).constants)) (map (λ (h : GroundFormula). form_of (tables_of problem) h.atom) (axioms_of gs))
       → AllByRecursion (IsWellFormed (length (tables_of problem).constants)) (map (λ (h : GroundFormula). form_of (tables_of problem) h.atom) (if premise then g ∷ axioms_of gs else axioms_of gs))
   fits_by g gs true is rest = (form_fits g.atom is, rest)
   fits_by g gs false is rest = rest
 
+  -- the forms of the axioms are well formed
   forms_fit : (gs : List GroundFormula) → ((g : GroundFormula) → IsAmong g gs → IsIn problem g.atom)
       → AllByRecursion (IsWellFormed (length (tables_of problem).constants)) (map (λ (h : GroundFormula). form_of (tables_of problem) h.atom) (axioms_of gs))
   forms_fit [] known = tt
   forms_fit (g ∷ gs) known = fits_by g gs (is_premise g.role) (known g (inl refl)) (forms_fit gs (λ h here. known h (inr here)))
 
   module _ (goal : GroundAtom) (one_goal : goals_of problem ≡ goal ∷ []) where
+    -- the goal is an atom of the problem
     goal_in : IsIn problem goal
     goal_in = let k = goal_among problem goal [] one_goal in subst (IsIn problem) k.2 (is_in problem k.0 k.1)
 
+    -- the task of a ground problem is a task
     is_task : IsTask (length (tables_of problem).constants) (task_of problem)
     is_task =
         let none : (task_of problem).goal.universals ≡ 0 = ap (λ (f : Form). f.universals) (goal_is problem goal one_goal) in
@@ -147,6 +159,7 @@ module _ (s : Structure) (problem : List GroundFormula) where
           | inr none ↦ absurd none
         ]
 
+    -- where there is an accepted proof, the goal follows
     pub follows : ((c : Text) → s.element (s.place c)) → (one : ℕ) → s.element one → (steps : List CitedFact) (body : Body) → IsAccepted problem steps body → Follows s (map fof_of problem)
     follows placed one is_one steps body is premises = conjecture_true problem goal [] one_goal (goal_holds (goal_true (interpretation s (tables_of problem))
         (length (tables_of problem).constants) (task_of problem) is_task [] (λ c. placed (text_or_empty (slice_get (tables_of problem).constants c)))

@@ -4,7 +4,7 @@
 use Rattle.std.specs.Prelude.{◌≤◌, ◌<◌, ◌≡◌, Bool, true, false, if◌then◌else◌, List, [], ◌∷◌, ◌++◌, length, map, codes}
 use Rattle.std.specs.List.{AllByRecursion}
 use Rattle.text_core.specs.Names.{Text, is_lower, is_word_from}
-use Rattle.text_core.specs.declared.limits.TheConstants.{MOST_APPLICATIONS}
+use Rattle.text_core.specs.declared.limits.TheConstants.{MOST_APPLICATIONS, MOST_ARGUMENTS}
 use Rattle.logic_core.specs.declared.formula.Term.TheVariants.{Constant}
 use Rattle.logic_core.specs.declared.formula.Formula.{Formula, Pred}
 use Rattle.logic_core.specs.declared.problem.Role.{Role}
@@ -39,11 +39,11 @@ abbrev pub goals_of : List GroundFormula → List GroundAtom
 goals_of [] = []
 goals_of (g ∷ gs) = if is_premise g.role then goals_of gs else g.atom ∷ goals_of gs
 
--- the formulas of the problem are these: at most 32 arguments each, and one of them is the
+-- the formulas of the problem are these: at most `MOST_ARGUMENTS` arguments each, and one
 -- conjecture
 pub record IsGroundProblem (problem : List Fof) (formulas : List GroundFormula) : Type 0 where
   pub are : problem ≡ map fof_of formulas
-  pub narrow : AllByRecursion (λ g. length g.atom.args ≤ 32) formulas
+  pub narrow : AllByRecursion (λ g. length g.atom.args ≤ MOST_ARGUMENTS) formulas
   pub one_goal : length (goals_of formulas) ≡ 1
 
 -- why a problem gives no ground formulas; want of memory may come anywhere

@@ -1,5 +1,6 @@
 ghost use Rattle.std.specs.Prelude.{◌≡◌, length, nat_le, map, List as Lst, IfOk, IfErr, MatchResult};
 ghost use Rattle.std.specs.List.{list_all};
+ghost use Rattle.text_core.specs.declared.limits.TheConstants.{MOST_ARGUMENTS};
 ghost use Rattle.logic_core.specs.declared.formula.Term.TheVariants.{Constant};
 ghost use Rattle.proof_checker.specs.declared.ground.GroundFormula.{GroundFormula as Ground};
 ghost use Rattle.proof_checker.specs.declared.problem.NotGround.TheVariants as faults;
@@ -10,6 +11,7 @@ use crate::check::is_premise;
 use crate::ground::{GroundAtom, GroundFormula};
 use logic_core::{Bytes, Fof, Formula, List, Memory, Problem, Term};
 use std::alloc::Global;
+use text_core::MOST_ARGUMENTS;
 
 /// Why a problem gives no ground formulas.
 #[derive(Debug, Drop)]
@@ -83,9 +85,9 @@ fn each_ground(alloc: Global, fofs: &[Fof]) -> Result<List<GroundFormula>, NotGr
 }
 
 fn is_narrow(formulas: &[GroundFormula]) -> bool
-    ensures { result ≡ list_all (λ (g : Ground). nat_le (length g.atom.args) 32) formulas.now }
+    ensures { result ≡ list_all (λ (g : Ground). nat_le (length g.atom.args) MOST_ARGUMENTS) formulas.now }
 {
-    formulas.iter().all(|formula| formula.atom.args.len() <= 32)
+    formulas.iter().all(|formula| formula.atom.args.len() <= MOST_ARGUMENTS as usize)
 }
 
 #[tactic(auto, using(crate::proofs::Fit::goals_counted))]
@@ -98,16 +100,16 @@ fn count_goals(formulas: &[GroundFormula]) -> usize
         .count()
 }
 
-/// Whether each formula has at most 32 arguments, and one is a conjecture.
+/// Whether each formula has at most `MOST_ARGUMENTS` arguments, and one is a conjecture.
 fn is_fit(formulas: &[GroundFormula]) -> bool
     ensures { result ≡ is_fit formulas.now }
 {
     is_narrow(formulas) && count_goals(formulas) == 1
 }
 
-/// The formulas of a ground problem, in order: each is a predicate with at most 32 constants, one
-/// is the conjecture, and the others have any other role. `NotBuilt` comes exactly where the
-/// problem is no such one, and `Memory` is want of memory. Source: the TPTP syntax, FOF.
+/// The formulas of a ground problem, in order: each is a predicate with at most `MOST_ARGUMENTS`
+/// constants, one is the conjecture, and the others have any other role. `NotBuilt` comes exactly
+/// where the problem is no such one, and `Memory` is want of memory. Source: the TPTP syntax, FOF.
 pub fn ground_formulas(alloc: Global, problem: &Problem) -> Result<List<GroundFormula>, NotGround>
     ensures read { IfOk result (IsGroundProblem problem.now) }
     ensures found { (formulas : Lst Ground) → IsGroundProblem problem.now formulas

@@ -84,6 +84,7 @@ module _ (name : Text) where
   here_at x names false true p e rest = text_at-cons x names p ∙ rest
   here_at x names false false p e rest = text_at-cons x (names ++ name ∷ []) p ∙ rest
 
+  -- the name is at its number
   pub text_here : (names : List Text) → text_at (with_name names name) (name_number names name) ≡ name
   text_here [] = refl
   text_here (x ∷ names) = here_at x names (pointwise nat_eq name x) (list_any (pointwise nat_eq name) names) (name_number names name) refl (text_here names)
@@ -93,6 +94,7 @@ module _ (name : Text) where
   stays_at names true j below = refl
   stays_at names false j below = text_at-append names (name ∷ []) j below
 
+  -- the texts before it keep their numbers
   pub text_stays : (names : List Text) (j : ℕ) → j < length names → text_at (with_name names name) j ≡ text_at names j
   text_stays names j below = stays_at names (list_any (pointwise nat_eq name) names) j below
 

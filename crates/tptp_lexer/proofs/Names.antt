@@ -123,6 +123,7 @@ NameFacts _ text = IsNameText text
 
 -- what holds by each row of a table holds of the kind that it tells
 module _ (Q : Kind → Text → Type 0) (text : Text) where
+  -- a property of each kind holds of the texts of its row
   abbrev pub ByRow : List (Kind × (Text → Bool)) → Type 0
   ByRow [] = Unit {0}
   ByRow (k ∷ ks) = (k.1 text ≡ true → Q k.0 text) × ByRow ks

@@ -22,22 +22,27 @@ pub open_parenthesis : Gives Any (codes "(") (IsOne kind.OpenParenthesis)
 unfolding kind_of
 open_parenthesis = sign kind.OpenParenthesis (codes "(") refl (λ c cs. refl)
 
+-- a closing parenthesis
 pub close_parenthesis : Gives Any (codes ")") (IsOne kind.CloseParenthesis)
 unfolding kind_of
 close_parenthesis = sign kind.CloseParenthesis (codes ")") refl (λ c cs. refl)
 
+-- an opening bracket
 pub open_bracket : Gives Any (codes "[") (IsOne kind.OpenBracket)
 unfolding kind_of
 open_bracket = sign kind.OpenBracket (codes "[") refl (λ c cs. refl)
 
+-- a closing bracket
 pub close_bracket : Gives Any (codes "]") (IsOne kind.CloseBracket)
 unfolding kind_of
 close_bracket = sign kind.CloseBracket (codes "]") refl (λ c cs. refl)
 
+-- a comma
 pub comma : Gives Any (codes ",") (IsOne kind.Comma)
 unfolding kind_of
 comma = sign kind.Comma (codes ",") refl (λ c cs. refl)
 
+-- a dot
 pub dot : Gives Any (codes ".") (IsOne kind.Dot)
 unfolding kind_of
 dot = sign kind.Dot (codes ".") refl (λ c cs. refl)
@@ -68,30 +73,37 @@ pub tilde : Gives Any (codes "~ ") (IsOne kind.Tilde)
 unfolding kind_of
 tilde = blank_after (λ rest. refl) (led_sign kind.Tilde (codes "~") refl (λ cs. refl))
 
+-- an exclamation mark and a blank
 pub exclamation : Gives Any (codes "! ") (IsOne kind.Exclamation)
 unfolding kind_of
 exclamation = blank_after (λ rest. refl) (led_sign kind.Exclamation (codes "!") refl (λ cs. refl))
 
+-- a question mark and a blank
 pub question : Gives Any (codes "? ") (IsOne kind.Question)
 unfolding kind_of
 question = blank_after (λ rest. refl) (led_sign kind.Question (codes "?") refl (λ cs. refl))
 
+-- a colon between blanks
 pub colon : Gives Any (codes " : ") (IsOne kind.Colon)
 unfolding kind_of
 colon = blank_before (blank_after (λ rest. refl) (led_sign kind.Colon (codes ":") refl (λ cs. refl)))
 
+-- an equality sign between blanks
 pub equals : Gives Any (codes " = ") (IsOne kind.Equal)
 unfolding kind_of
 equals = blank_before (blank_after (λ rest. refl) (led_sign kind.Equal (codes "=") refl (λ cs. refl)))
 
+-- an inequality sign between blanks
 pub differs : Gives Any (codes " != ") (IsOne kind.NotEqual)
 unfolding kind_of
 differs = blank_before (blank_after (λ rest. refl) (led_sign kind.NotEqual (codes "!=") refl (λ cs. refl)))
 
+-- an ampersand between blanks
 pub ampersand : Gives Any (codes " & ") (IsOne kind.Ampersand)
 unfolding kind_of
 ampersand = blank_before (blank_after (λ rest. refl) (led_sign kind.Ampersand (codes "&") refl (λ cs. refl)))
 
+-- a bar between blanks
 pub bar : Gives Any (codes " | ") (IsOne kind.Bar)
 unfolding kind_of
 bar = blank_before (blank_after (λ rest. refl) (led_sign kind.Bar (codes "|") refl (λ cs. refl)))

@@ -43,6 +43,7 @@ module _ (constants : ℕ) (task : Task) (right : IsTask constants task) where
           let head : slice_index e first ≡ first = (c.start_fixed first (omega arith)).1 in
           let rest = go (first + 1) k (omega arith) in cc
 
+  -- an answer in the first context is one in the other, at the images of its arguments
   answer_carries : (e : List ℕ) (from to : Context) → Carries task e from to → (disjunct : ℕ) (args : List ℕ) → IsAnswer task from disjunct args
       → IsAnswer task to disjunct (map (slice_index e) args)
   answer_carries e from to c disjunct args h =
@@ -61,6 +62,8 @@ module _ (constants : ℕ) (task : Task) (right : IsTask constants task) where
             (atoms_carry constants task right e from to c (task.goal.universals + task.goal.existentials) xs long h.atoms below h.stand);
       }
 
+  -- where there is a proof behind the steps, there is one with them that is longer by their number
+  -- at most
   steps_carry : (steps : List Mp) (P : Context → Type 0) (most deepest : ℕ)
       → ((e : List ℕ) (from to : Context) → Carries task e from to → P from → HasProof task to most deepest)
       → (e : List ℕ) (from to : Context) → Carries task e from to → StepsThen task steps P from → HasProof task to (length steps + most) deepest
@@ -80,6 +83,7 @@ module _ (constants : ℕ) (task : Task) (right : IsTask constants task) where
         shallow = found.shallow;
       }
 
+  -- a split proves where there are proofs for the cases of the line
   split_carries : (to : Context) (line : ℕ) (lists : List (List Atom)) (most deepest : ℕ) → slice_get to.lines line ≡ Some (Cases lists)
       → HaveProofs task to lists most deepest → HasProof task to (1 + most) (1 + deepest)
   split_carries to line lists most deepest is h =
@@ -93,9 +97,11 @@ module _ (constants : ℕ) (task : Task) (right : IsTask constants task) where
         shallow = let total : end_nesting (Cs line h.bodies) ≤ 1 + deepest = omega arith in total;
       }
 
+  -- a line of falsehood carries over
   falsum_carries : (e : List ℕ) (from to : Context) → Carries task e from to → SomeOf (λ line. line ≡ Falsum) from.lines → SomeOf (λ line. line ≡ Falsum) to.lines
   falsum_carries e from to c h = some_with (λ line carried same. subst (LineCarries e to) same carried) from.lines c.lines h
 
+  -- a proof for the first case and proofs for the others are proofs for all
   more_proofs : (to : Context) (facts : List Atom) (rest lists : List (List Atom)) (most deepest others deepest_other : ℕ) → lists ≡ facts ∷ rest
       → HasProof task (with_facts to facts) most deepest → HaveProofs task to rest others deepest_other → HaveProofs task to lists (most + others) (max deepest deepest_other)
   more_proofs to facts rest lists most deepest others deepest_other is first h =
@@ -113,6 +119,7 @@ module _ (constants : ℕ) (task : Task) (right : IsTask constants task) where
       }
 
   mutual
+    -- an end that closes the first context gives a proof from the other that is no larger
     end_carries : (end : End) (e : List ℕ) (from to : Context) → Carries task e from to → Closes task end from → HasProof task to (end_size end) (end_nesting end)
     end_carries (As disjunct args) e from to c h = record {
       body = record { steps = []; end = As disjunct (map (slice_index e) args) };
@@ -134,6 +141,7 @@ module _ (constants : ℕ) (task : Task) (right : IsTask constants task) where
         record { body = found.body; proves = found.proves; small = omega (arith, found.small); shallow = omega (arith, found.shallow) })
         carried.1
 
+    -- branches that prove each case give proofs from the images of the cases
     row_carries : {n : _} (row : Row_of-Body n) (lists : List (List Atom)) (e : List ℕ) (from to : Context) → Carries task e from to
         → AllByRecursion (AllByRecursion (HasElements (length e))) lists → EachProves task row lists from
         → HaveProofs task to (map (map (image e)) lists) (sizes row) (greatest_nesting row)
@@ -151,6 +159,7 @@ module _ (constants : ℕ) (task : Task) (right : IsTask constants task) where
         more_proofs to (map (image e) h.0) (map (map (image e)) h.1) (map (map (image e)) lists) (length steps + end_size end) (end_nesting end) (sizes rest) (greatest_nesting rest)
         (ap (map (map (image e))) h.2) first others
 
+    -- where the images of one case stand, its branch alone gives a proof
     one_carries : {n : _} (row : Row_of-Body n) (lists : List (List Atom)) (e : List ℕ) (from to : Context) → Carries task e from to
         → AllByRecursion (AllByRecursion (HasElements (length e))) lists → SomeOf (ImagesStand e to) lists → EachProves task row lists from
         → HasProof task to (sizes row) (greatest_nesting row)
@@ -165,5 +174,6 @@ module _ (constants : ℕ) (task : Task) (right : IsTask constants task) where
         record { body = found.body; proves = found.proves; small = omega (arith, found.small); shallow = omega (arith, found.shallow) })
         (subst (SomeOf (ImagesStand e to)) h.2 stand)
 
+  -- a proof from the first context gives a proof from the other that is no larger
   pub proof_carries : (e : List ℕ) (from to : Context) (body : Body) → Carries task e from to → IsProof task from body → HasProof task to (size body) (nesting body)
   proof_carries e from to body c h = steps_carry body.steps (Closes task body.end) (end_size body.end) (end_nesting body.end) (end_carries body.end) e from to c h

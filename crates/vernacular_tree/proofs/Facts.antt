@@ -1,5 +1,6 @@
--- Facts of a context read in an interpretation, by a list that gives an element for each of the context's.
-use Rattle.std.proofs.Common.{◌≡◌, ℕ, suc, ◌<◌, List, [], ◌∷◌, ◌++◌, map, length, slice_index, refl, ap, sym, ◌∙◌, subst, inl, inr, arith, length-append}
+-- Facts of a context read in an interpretation, by a list that gives an element for each of the
+-- context's.
+use Rattle.std.proofs.Common.{◌≡◌, ℕ, ◌<◌, ◌≤◌, List, [], ◌∷◌, ◌++◌, map, length, slice_index, refl, ap, sym, ◌∙◌, subst, inl, inr, arith, length-append}
 use Rattle.std.proofs.lemmas.List.{get_or-map, get_or_append_left}
 use Rattle.std.specs.List.{AllByRecursion}
 use Rattle.text_core.specs.Lists.{SomeOf}
@@ -19,9 +20,9 @@ slot_in e (Variable v) = 0
 slot_in e (Constant a) = slice_index e a
 
 -- a slot below one bound is below any bound that is no smaller
-slot_below : (n m : ℕ) (s : Slot) → n < suc m → SlotIsBelow 0 n s → SlotIsBelow 0 m s
-slot_below n m (Variable v) le h = h
-slot_below n m (Constant c) le h = omega arith
+pub slot_below : (n m : ℕ) → n ≤ m → (s : Slot) → SlotIsBelow 0 n s → SlotIsBelow 0 m s
+slot_below n m le (Variable v) h = h
+slot_below n m le (Constant c) h = omega arith
 
 -- a slot keeps its element where more elements are put behind
 slot_grows : (e ys : List ℕ) (s : Slot) → SlotIsBelow 0 (length e) s → slot_in (e ++ ys) s ≡ slot_in e s
@@ -34,26 +35,31 @@ module _ (i : Interpretation) where
     pub within : AtomIsBelow 0 (length e) fact
     pub holds : i.holds fact.symbol (map (slot_in e) fact.args) ≡ fact.positive
 
+  -- a line is true at what the elements read: all its facts are, or all of one case; falsehood
+  -- never is
   abbrev pub LineTrue : List ℕ → Line → Type 0
   LineTrue e (Facts facts) = AllByRecursion (FactTrue e) facts
   LineTrue e (Cases lists) = SomeOf (AllByRecursion (FactTrue e)) lists
   LineTrue e Falsum = ⊥
 
+  -- a true fact stays true where more elements are put behind
   pub fact_grows : (e ys : List ℕ) (fact : Atom) → FactTrue e fact → FactTrue (e ++ ys) fact
   fact_grows e ys fact h =
-      let longer : length e < suc (length (e ++ ys)) = omega (arith, length-append e ys) in
+      let longer : length e ≤ length (e ++ ys) = omega (arith, length-append e ys) in
       let same : map (slot_in (e ++ ys)) fact.args ≡ map (slot_in e) fact.args
       = each_same (slot_in (e ++ ys)) (slot_in e) fact.args (each_map (slot_grows e ys) fact.args h.within) in
       record {
-        within = each_map (λ s. slot_below (length e) (length (e ++ ys)) s longer) fact.args h.within;
+        within = each_map (slot_below (length e) (length (e ++ ys)) longer) fact.args h.within;
         holds = ap (i.holds fact.symbol) same ∙ h.holds;
       }
 
+  -- a list with a true case keeps it where more elements are put behind
   lists_grow : (e ys : List ℕ) (lists : List (List Atom)) → SomeOf (AllByRecursion (FactTrue e)) lists → SomeOf (AllByRecursion (FactTrue (e ++ ys))) lists
   lists_grow e ys [] h = h
   lists_grow e ys (facts ∷ lists) (inl h) = inl (each_map (fact_grows e ys) facts h)
   lists_grow e ys (facts ∷ lists) (inr h) = inr (lists_grow e ys lists h)
 
+  -- a true line stays true where more elements are put behind
   pub line_grows : (e ys : List ℕ) (line : Line) → LineTrue e line → LineTrue (e ++ ys) line
   line_grows e ys (Facts facts) h = each_map (fact_grows e ys) facts h
   line_grows e ys (Cases lists) h = lists_grow e ys lists h
@@ -66,6 +72,7 @@ module _ (i : Interpretation) where
   line_of_true e (facts ∷ []) (inr h) = absurd h
   line_of_true e (facts ∷ more ∷ rest) h = h
 
+  -- a fact that a true line has is true
   in_line : (e : List ℕ) (fact : Atom) (line : Line) → LineTrue e line → LineHas fact line → FactTrue e fact
   in_line e fact (Facts facts) all has = some_with (λ y true_y same. subst (FactTrue e) same true_y) facts all has
   in_line e fact (Cases lists) all has = absurd has
@@ -80,18 +87,22 @@ module _ (i : Interpretation) where
   Named constants e = (c : ℕ) → c < constants → (c < length e) × (slice_index e c ≡ i.place c)
 
   module _ (n constants : ℕ) (xs e : List ℕ) (long : length xs ≡ n) (known : AllByRecursion (λ x. x < length e) xs) (named : Named constants e) where
+    -- a slot of a form stands at one of the elements
     slot_within : (s : Slot) → SlotIsBelow n constants s → SlotIsBelow 0 (length e) (slot_at xs s)
     slot_within (Variable v) h = each_index (λ x. x < length e) xs v (omega arith) known
     slot_within (Constant c) h = (named c h).0
 
+    -- a slot of a form and the element that it stands at have the same value
     slot_reads : (s : Slot) → SlotIsBelow n constants s → slot_in e (slot_at xs s) ≡ slot_value i (map (slice_index e) xs) s
     slot_reads (Variable v) h = sym (get_or-map (slice_index e) xs v 0 0 (omega arith))
     slot_reads (Constant c) h = (named c h).1
 
+    -- slots of a form stand at some of the elements
     args_within : (ss : List Slot) → AllByRecursion (SlotIsBelow n constants) ss → AllByRecursion (SlotIsBelow 0 (length e)) (map (slot_at xs) ss)
     args_within [] h = tt
     args_within (s ∷ ss) h = (slot_within s h.0, args_within ss h.1)
 
+    -- slots of a form and the elements that they stand at have the same values
     args_read : (ss : List Slot) → AllByRecursion (SlotIsBelow n constants) ss
         → map (slot_in e) (map (slot_at xs) ss) ≡ map (slot_value i (map (slice_index e) xs)) ss
     args_read [] h = refl
@@ -104,5 +115,6 @@ module _ (i : Interpretation) where
       holds = ap (i.holds atom.symbol) (args_read atom.args below) ∙ h;
     }
 
+    -- where its fact is true at what the elements read, an atom of a form is true
     pub atom_true : (atom : Atom) → AtomIsBelow n constants atom → FactTrue e (atom_at xs atom) → AtomTrue i (map (slice_index e) xs) atom
     atom_true atom below h = sym (ap (i.holds atom.symbol) (args_read atom.args below)) ∙ h.holds

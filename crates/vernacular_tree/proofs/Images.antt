@@ -1,4 +1,5 @@
--- What stands in a context stands in another that it carries over to, at the images of its elements.
+-- What stands in a context stands in another that it carries over to, at the images of its
+-- elements.
 use Rattle.std.proofs.Common.{◌≡◌, ℕ, zero, suc, ◌+◌, ◌<◌, ◌≤◌, inl, inr, ⊎_elim, List, [], ◌∷◌, ◌++◌, map, length, slice_get, slice_index, Some, refl, ap, sym, ◌∙◌, subst, arith, length-append, append-nil}
 use Rattle.std.proofs.lemmas.List.{get_or-map, get_or_append_left, length-map}
 use Rattle.std.specs.List.{AllByRecursion}
@@ -103,43 +104,53 @@ in_line e to fact Falsum h has = absurd has
 
 -- atoms of forms at elements
 module _ (constants n : ℕ) (xs : List ℕ) (long : length xs ≡ n) where
+  -- a slot of a form stands at an element below the bound of the constants and the elements
   slot_at_within : (m : ℕ) → constants ≤ m → AllByRecursion (λ x. x < m) xs → (s : Slot) → SlotIsBelow n constants s → SlotIsBelow 0 m (slot_at xs s)
   slot_at_within m le known (Variable v) h = each_index (λ x. x < m) xs v (omega arith) known
   slot_at_within m le known (Constant c) h = omega arith
 
+  -- slots of a form stand at elements below the bound of the constants and the elements
   slots_at_within : (m : ℕ) → constants ≤ m → AllByRecursion (λ x. x < m) xs → (ss : List Slot) → AllByRecursion (SlotIsBelow n constants) ss
       → AllByRecursion (SlotIsBelow 0 m) (map (slot_at xs) ss)
   slots_at_within m le known [] h = tt
   slots_at_within m le known (s ∷ ss) h = (slot_at_within m le known s h.0, slots_at_within m le known ss h.1)
 
+  -- an atom of a form stands at elements below the bound of the constants and the elements
   pub atom_at_within : (m : ℕ) → constants ≤ m → AllByRecursion (λ x. x < m) xs → (atom : Atom) → AtomIsBelow n constants atom → HasElements m (atom_at xs atom)
   atom_at_within m le known atom h = slots_at_within m le known atom.args h
 
   module _ (e : List ℕ) (fixed : (c : ℕ) → c < constants → slice_index e c ≡ c) where
+    -- the image of a slot at elements is the slot at their images
     slot_at_image : (s : Slot) → SlotIsBelow n constants s → slot_image e (slot_at xs s) ≡ slot_at (map (slice_index e) xs) s
     slot_at_image (Variable v) h = ap Constant (sym (get_or-map (slice_index e) xs v 0 0 (omega arith)))
     slot_at_image (Constant c) h = ap Constant (fixed c h)
 
+    -- the images of slots at elements are the slots at their images
     slots_at_image : (ss : List Slot) → AllByRecursion (SlotIsBelow n constants) ss → map (slot_image e) (map (slot_at xs) ss) ≡ map (slot_at (map (slice_index e) xs)) ss
     slots_at_image [] h = refl
     slots_at_image (s ∷ ss) h = let first = slot_at_image s h.0 in let rest = slots_at_image ss h.1 in cc
 
+    -- the image of an atom at elements is the atom at their images
     pub atom_at_image : (atom : Atom) → AtomIsBelow n constants atom → image e (atom_at xs atom) ≡ atom_at (map (slice_index e) xs) atom
     atom_at_image atom h = ap (λ (args : List Slot). record { positive = atom.positive; symbol = atom.symbol; args = args }) (slots_at_image atom.args h)
 
+    -- the images of atoms at elements are the atoms at their images
     atoms_at_image : (atoms : List Atom) → AllByRecursion (AtomIsBelow n constants) atoms → map (image e) (map (atom_at xs) atoms) ≡ map (atom_at (map (slice_index e) xs)) atoms
     atoms_at_image [] h = refl
     atoms_at_image (a ∷ atoms) h = let first = atom_at_image a h.0 in let rest = atoms_at_image atoms h.1 in cc
 
+    -- the images of lists of atoms at elements are the lists at their images
     pub lists_at_image : (lists : List (List Atom)) → AllByRecursion (AllByRecursion (AtomIsBelow n constants)) lists
         → map (map (image e)) (map (map (atom_at xs)) lists) ≡ map (map (atom_at (map (slice_index e) xs))) lists
     lists_at_image [] h = refl
     lists_at_image (l ∷ lists) h = let first = atoms_at_image l h.0 in let rest = lists_at_image lists h.1 in cc
 
 module _ (constants : ℕ) (task : Task) (right : IsTask constants task) (e : List ℕ) (from to : Context) (c : Carries task e from to) where
+  -- each constant stands for itself
   pub constants_fixed : (k : ℕ) → k < constants → slice_index e k ≡ k
   constants_fixed k below = let start = right.start in (c.start_fixed k (omega arith)).1
 
+  -- each constant is an element of the first context
   pub constants_known : constants ≤ length e
   constants_known = go constants refl
     where
@@ -147,9 +158,11 @@ module _ (constants : ℕ) (task : Task) (right : IsTask constants task) (e : Li
       go zero is = omega arith
       go (suc k) is = let start = right.start in let last : k < from.elements = (c.start_fixed k (omega arith)).0 in omega (arith, c.length_is)
 
+  -- a fact that stands in the first context stands at its image in the other
   pub standing_carries : (fact : Atom) → Stands from fact → Stands to (image e fact)
   standing_carries fact h = some_with (in_line e to fact) from.lines c.lines h
 
+  -- elements that the first context knows have images that the other knows
   pub args_carry : (count : ℕ) (args : List ℕ) → AreKnown from count args → AreKnown to count (map (slice_index e) args)
   args_carry count args h =
       let known : AllByRecursion (λ x. x < length e) args = rw c.length_is h.known in
@@ -159,11 +172,13 @@ module _ (constants : ℕ) (task : Task) (right : IsTask constants task) (e : Li
             (λ x below _. each_index (λ y. y < to.elements) e x below c.known) args known known;
       }
 
+  -- atoms that stand in the first context stand at the images of their elements in the other
   pub atoms_carry : (n : ℕ) (xs : List ℕ) → length xs ≡ n → (atoms : List Atom) → AllByRecursion (AtomIsBelow n constants) atoms
       → AllByRecursion (λ atom. Stands from (atom_at xs atom)) atoms → AllByRecursion (λ atom. Stands to (atom_at (map (slice_index e) xs) atom)) atoms
   atoms_carry n xs long atoms below stand =
       each_both (λ atom b stands. subst (Stands to) (atom_at_image constants n xs long e constants_fixed atom b) (standing_carries (atom_at xs atom) stands)) atoms below stand
 
+  -- a form that may be applied in the first context may be applied to the images in the other
   pub instance_carries : (form : Form) (args : List ℕ) → IsWellFormed constants form → IsInstance from form args → IsInstance to form (map (slice_index e) args)
   instance_carries form args formed inst = record {
     args_known = args_carry form.universals args inst.args_known;
@@ -180,22 +195,28 @@ module _ (constants : ℕ) (task : Task) (right : IsTask constants task) (e : Li
     lines = each_append (LineCarries e more) from.lines (Facts facts ∷ []) (each_map (line_kept e e (keeps_self e) to more lines is) from.lines c.lines) (line, tt);
   }
 
+  -- with facts added in the first context and their images in the other, the first still carries
+  -- over
   pub facts_carry : (facts : List Atom) → AllByRecursion (HasElements (length e)) facts → Carries task e (with_facts from facts) (with_facts to (map (image e) facts))
   facts_carry facts within =
       facts_line facts (with_facts to (map (image e) facts)) (Facts (map (image e) facts) ∷ []) refl refl
       (new_line e (with_facts to (map (image e) facts)) (length to.lines) (facts ∷ []) (within, tt) (get_behind to.lines (Facts (map (image e) facts)) []))
 
+  -- facts whose images stand already may be added in the first context alone
   pub standing_facts_carry : (facts : List Atom) → AllByRecursion (HasElements (length e)) facts → ImagesStand e to facts → Carries task e (with_facts from facts) to
   standing_facts_carry facts within stand = facts_line facts to [] (sym (append-nil to.lines)) refl (within, stand)
 
   -- an application of modus ponens, for whose new elements others stand
   module _ (form : Form) (args : List ℕ) (formed : IsWellFormed constants form) (inst : IsInstance from form args) (ys : List ℕ) (many : length ys ≡ form.existentials) where
+    -- the elements at which the disjuncts are added: the arguments, then the new ones
     abbrev all_args : List ℕ
     all_args = args ++ counted from.elements form.existentials
 
+    -- there are as many elements as the form has variables
     all_long : length all_args ≡ form.universals + form.existentials
     all_long = omega (arith, length-append args (counted from.elements form.existentials), inst.args_known.length_is, counted_length from.elements form.existentials)
 
+    -- each of these elements has an image
     all_known : AllByRecursion (λ x. x < length (e ++ ys)) all_args
     all_known =
         let long : length (e ++ ys) ≡ length e + length ys = length-append e ys in
@@ -204,12 +225,15 @@ module _ (constants : ℕ) (task : Task) (right : IsTask constants task) (e : Li
         (below_greater from.elements (length (e ++ ys)) args (omega arith) inst.args_known.known)
         (counted_below from.elements form.existentials (length (e ++ ys)) (omega arith))
 
+    -- the images of these elements: those of the arguments, then those given for the new ones
     all_read : map (slice_index (e ++ ys)) all_args ≡ map (slice_index e) args ++ ys
     all_read = both_read e ys args from.elements form.existentials c.length_is many inst.args_known.known
 
+    -- each constant still stands for itself
     more_fixed : (k : ℕ) → k < constants → slice_index (e ++ ys) k ≡ k
     more_fixed k below = let all = constants_known in get_or_append_left e ys 0 k (omega arith) ∙ constants_fixed k below
 
+    -- the facts of the new line have elements with images
     disjuncts_within : AllByRecursion (AllByRecursion (HasElements (length (e ++ ys)))) (map (map (atom_at all_args)) form.disjuncts)
     disjuncts_within =
         let long : length (e ++ ys) ≡ length e + length ys = length-append e ys in
@@ -219,10 +243,13 @@ module _ (constants : ℕ) (task : Task) (right : IsTask constants task) (e : Li
         (λ atom b bb. atom_at_within constants (form.universals + form.existentials) all_args all_long (length (e ++ ys)) (omega arith) all_known atom b) atoms below also)
         form.disjuncts formed.disjuncts formed.disjuncts
 
+    -- the images of the new line are the disjuncts at the images of the elements
     disjuncts_image : map (map (image (e ++ ys))) (map (map (atom_at all_args)) form.disjuncts) ≡ map (map (atom_at (map (slice_index e) args ++ ys))) form.disjuncts
     disjuncts_image = lists_at_image constants (form.universals + form.existentials) all_args all_long (e ++ ys) more_fixed form.disjuncts formed.disjuncts
         ∙ ap (λ (zs : List ℕ). map (map (atom_at zs)) form.disjuncts) all_read
 
+    -- where the new line carries over to the other context with more lines, so does the whole
+    -- context
     after_carries : (more : Context) (lines : List Line) → more.lines ≡ to.lines ++ lines → to.elements ≤ more.elements → AllByRecursion (λ y. y < more.elements) ys
         → LineCarries (e ++ ys) more (line_of (map (map (atom_at all_args)) form.disjuncts)) → Carries task (e ++ ys) (after_mp from form args) more
     after_carries more lines is le new line =

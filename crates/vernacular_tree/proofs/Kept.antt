@@ -17,16 +17,12 @@ use Rattle.vernacular_tree.specs.declared.context.Line.TheVariants.{Facts, Cases
 use Rattle.vernacular_tree.specs.declared.context.Context.{Context}
 use Rattle.text_core.proofs.Laws.{each_map, each_append, each_get, each_mapped, each_both, some_at, each_is_among, get_behind}
 use Rattle.vernacular_tree.proofs.Numbers.{below_greater, counted_length, counted_below, counted_at}
+use Rattle.vernacular_tree.proofs.Facts.{slot_below}
 use Rattle.vernacular_tree.proofs.Images.{atom_at_within, witness_carries}
-
--- a slot below one bound is below any bound that is no smaller
-slot_more : (n m : ℕ) → n ≤ m → (s : Slot) → SlotIsBelow 0 n s → SlotIsBelow 0 m s
-slot_more n m le (Variable v) h = h
-slot_more n m le (Constant c) h = omega arith
 
 -- a fact with elements below one bound has them below any bound that is no smaller
 fact_more : (n m : ℕ) → n ≤ m → (fact : Atom) → HasElements n fact → HasElements m fact
-fact_more n m le fact h = each_map (slot_more n m le) fact.args h
+fact_more n m le fact h = each_map (slot_below n m le) fact.args h
 
 -- a line with elements below one bound has them below any bound that is no smaller
 line_more : (n m : ℕ) → n ≤ m → (line : Line) → LineIsBelow n line → LineIsBelow m line
@@ -52,9 +48,11 @@ case_is_context task context line lists i facts c is at =
     }
 
 module _ (constants : ℕ) (task : Task) (right : IsTask constants task) where
+  -- the constants are among the start elements
   constants_start : constants ≤ task.start
   constants_start = let start = right.start in omega arith
 
+  -- the start context of a task is a context of the task
   pub start_is_context : IsContext task (start_context task)
   start_is_context = record {
     start = omega arith;
@@ -68,6 +66,7 @@ module _ (constants : ℕ) (task : Task) (right : IsTask constants task) where
     );
   }
 
+  -- after modus ponens a context of the task is a context of the task
   pub after_is_context : (context : Context) (form : Form) (args : List ℕ) → IsContext task context → IsWellFormed constants form → IsInstance context form args
       → IsContext task (after_mp context form args)
   after_is_context context form args c formed inst =
@@ -94,6 +93,7 @@ module _ (constants : ℕ) (task : Task) (right : IsTask constants task) where
 
 -- every element stands for itself
 module _ (n : ℕ) where
+  -- slots below a bound are their own images where each element stands for itself
   slots_self : (ss : List Slot) → AllByRecursion (SlotIsBelow 0 n) ss → map (slot_image (counted 0 n)) ss ≡ ss
   slots_self [] h = refl
   slots_self (Variable v ∷ ss) h = let rest = slots_self ss h.1 in cc
@@ -101,13 +101,16 @@ module _ (n : ℕ) where
       let at : slice_index (counted 0 n) a ≡ a = let r = counted_at 0 n a h.0 in omega arith in
       let rest = slots_self ss h.1 in cc
 
+  -- a fact is its own image where each element stands for itself
   image_self : (fact : Atom) → HasElements n fact → image (counted 0 n) fact ≡ fact
   image_self fact h = ap (λ (args : List Slot). record { positive = fact.positive; symbol = fact.symbol; args = args }) (slots_self fact.args h)
 
+  -- facts are their own images where each element stands for itself
   images_self : (facts : List Atom) → AllByRecursion (HasElements n) facts → map (image (counted 0 n)) facts ≡ facts
   images_self [] h = refl
   images_self (fact ∷ facts) h = let first = image_self fact h.0 in let rest = images_self facts h.1 in cc
 
+  -- lists of facts are their own images where each element stands for itself
   lists_self : (lists : List (List Atom)) → AllByRecursion (AllByRecursion (HasElements n)) lists → map (map (image (counted 0 n))) lists ≡ lists
   lists_self [] h = refl
   lists_self (facts ∷ lists) h = let first = images_self facts h.0 in let rest = lists_self lists h.1 in cc
@@ -123,6 +126,7 @@ module _ (n : ℕ) where
       (rw (counted_length 0 n) below, inl (number, is ∙ ap (λ (ls : List (List Atom)). Some (Cases ls)) (sym (lists_self lists below))))
   line_self to number Falsum is below = some_at (λ line. line ≡ Falsum) to.lines number Falsum is refl
 
+  -- lines carry over to a context that has them
   lines_self : (to : Context) (before lines : List Line) → to.lines ≡ before ++ lines → AllByRecursion (LineIsBelow n) lines
       → AllByRecursion (LineCarries (counted 0 n) to) lines
   lines_self to before [] is below = tt
@@ -131,6 +135,7 @@ module _ (n : ℕ) where
     lines_self to (before ++ line ∷ []) lines (is ∙ sym (append_assoc before (line ∷ []) lines)) below.1,
   )
 
+  -- elements below a bound are read as themselves where each stands for itself
   args_self : (args : List ℕ) → AllByRecursion (λ x. x < n) args → map (slice_index (counted 0 n)) args ≡ args
   args_self [] h = refl
   args_self (a ∷ args) h =

@@ -123,6 +123,7 @@ facts_lowered gone context lacking facts l =
     longer_lowered gone context lacking (with_facts context facts) (with_facts lacking facts) (Facts facts) l refl refl l.elements
 
 module _ (task : Task) where
+  -- steps that lead on in the context lead on without the line
   steps_lowered : (gone : ℕ) (steps : List Mp) (P Q : Context → Type 0) → ((c1 c2 : Context) → Lowers gone c1 c2 → P c1 → Q c2)
       → (context lacking : Context) → Lowers gone context lacking → StepsThen task steps P context → StepsThen task steps Q lacking
   steps_lowered gone [] P Q go context lacking l h = go context lacking l h
@@ -133,6 +134,7 @@ module _ (task : Task) where
     steps_lowered gone steps P Q go (after_mp context h.0 step.args) (after_mp lacking h.0 step.args) (after_lowered gone context lacking h.0 step.args l) h.3,
   )
 
+  -- an answer in the context is an answer without the line
   answer_lowered : (gone : ℕ) (context lacking : Context) → Lowers gone context lacking → (disjunct : ℕ) (args : List ℕ) → IsAnswer task context disjunct args → IsAnswer task lacking disjunct args
   answer_lowered gone context lacking l disjunct args h = record {
     atoms = h.atoms;
@@ -143,12 +145,14 @@ module _ (task : Task) where
   }
 
   mutual
+    -- an end closes without the line, with the numbers of its lines lowered
     end_lowered : (end : End) (gone : ℕ) (context lacking : Context) → Lowers gone context lacking → Closes task end context → Closes task (lowered gone end) lacking
     end_lowered (As disjunct args) gone context lacking l h = answer_lowered gone context lacking l disjunct args h
     end_lowered Efq gone context lacking l h = falsum_lowered gone context lacking l h
     end_lowered (Cs' line s row) gone context lacking l h =
         (h.0, cases_lowered gone context lacking l line h.0 h.1, row_lowered row gone h.0 context lacking l h.2)
 
+    -- branches prove each case without the line, with the numbers of their lines lowered
     row_lowered : {n : _} (row : Row_of-Body n) (gone : ℕ) (lists : List (List Atom)) (context lacking : Context) → Lowers gone context lacking
         → EachProves task row lists context → EachProves task (lowered_branches gone row) lists lacking
     row_lowered end_of-Body gone lists context lacking l h = h
@@ -177,9 +181,11 @@ module _ (task : Task) where
         stand = each_mapped (λ fact. SomeOf (LineHas fact) context.lines) (atom_at args) (λ atom stands also. stands) b.atoms b.stand b.stand;
       }
 
+  -- there is one form at a number
   same_form : (f g : Form) (form : ℕ) → slice_get task.forms form ≡ Some f → slice_get task.forms form ≡ Some g → f ≡ g
   same_form f g form a b = let e : Some f ≡ Some g = sym a ∙ b in cc
 
+  -- steps still lead on where the barren one is left out, with the numbers in the end lowered
   steps_without : (j gone : ℕ) (steps : List Mp) (end : End) (context : Context) → gone ≡ length context.lines + j → StepIsBarren task j steps context
       → StepsThen task steps (Closes task end) context → StepsThen task (without_step j steps) (Closes task (lowered gone end)) context
   steps_without j gone [] end context at b h = absurd b
@@ -213,13 +219,16 @@ module _ (task : Task) where
             (omega (arith, length-append context.lines (line_of (map (map (atom_at (step.args ++ counted context.elements h.0.existentials))) h.0.disjuncts) ∷ []))) after h.3,
       )
 
+  -- there is one list of cases at a line
   same_lists : (l1 l2 : List (List Atom)) (line : ℕ) (context : Context) → slice_get context.lines line ≡ Some (Cases l1) → slice_get context.lines line ≡ Some (Cases l2) → l1 ≡ l2
   same_lists l1 l2 line context a b = let e : Some (Cases l1) ≡ Some (Cases l2) = sym a ∙ b in cc
 
+  -- a branch begins with one line more
   branch_lines : (context : Context) (facts : List Atom) (lines : ℕ) → length context.lines ≡ lines → length (with_facts context facts).lines ≡ lines + 1
   branch_lines context facts lines at = let e = length-append context.lines (Facts facts ∷ []) in omega (arith, e)
 
   mutual
+    -- an end still closes where the barren step in one of its branches is left out
     end_without_is : (end : End) (lines i : ℕ) (path : List ℕ) (j : ℕ) (context : Context) → length context.lines ≡ lines → EndHasBarren task end (i ∷ path) j context
         → Closes task end context → Closes task (end_without lines (i ∷ path) j end) context
     end_without_is (As disjunct args) lines i path j context at b h = absurd b
@@ -228,6 +237,7 @@ module _ (task : Task) where
         let same : b.0 ≡ h.0 = same_lists b.0 h.0 line context b.1 h.1 in
         (h.0, h.1, row_without_is row lines i path j h.0 context at (subst (λ (lists : List (List Atom)). BranchHasBarren task row i path j lists context) same b.2) h.2)
 
+    -- branches still prove each case where the barren step in one of them is left out
     row_without_is : {n : _} (row : Row_of-Body n) (lines i : ℕ) (path : List ℕ) (j : ℕ) (lists : List (List Atom)) (context : Context) → length context.lines ≡ lines
         → BranchHasBarren task row i path j lists context → EachProves task row lists context → EachProves task (branch_without lines i path j row) lists context
     row_without_is end_of-Body lines i path j lists context at b h = absurd b
@@ -258,6 +268,7 @@ module _ (task : Task) where
         let others : lists ≡ h.1 = cc in
         (h.0, h.1, h.2, h.3, row_without_is rest lines i path j h.1 context at (subst (λ (l : List (List Atom)). BranchHasBarren task rest i path j l context) others b) h.4)
 
+  -- a proof without a barren step is still a proof
   pub without_proves : (body : Body) (path : List ℕ) (j : ℕ) (context : Context) → HasBarren task body path j context → IsProof task context body
       → IsProof task context (without (length context.lines) path j body)
   without_proves body [] j context b h = steps_without j (length context.lines + j) body.steps body.end context refl b h
@@ -269,27 +280,32 @@ module _ (task : Task) where
 
   -- its size
   mutual
+    -- an end with lowered numbers has the same size
     end_lowered_size : (end : End) (gone : ℕ) → end_size (lowered gone end) ≡ end_size end
     end_lowered_size (As disjunct args) gone = refl
     end_lowered_size Efq gone = refl
     end_lowered_size (Cs' line s row) gone = ap (λ (k : ℕ). 1 + k) (row_lowered_size row gone)
 
+    -- branches with lowered numbers have the same size
     row_lowered_size : {n : _} (row : Row_of-Body n) (gone : ℕ) → sizes (lowered_branches gone row) ≡ sizes row
     row_lowered_size end_of-Body gone = refl
     row_lowered_size (more_of-Body steps end rest) gone =
         let a : end_size (lowered gone end) ≡ end_size end = end_lowered_size end gone in
         let b : sizes (lowered_branches gone rest) ≡ sizes rest = row_lowered_size rest gone in omega arith
 
+  -- one step is left out
   steps_count : (j : ℕ) (steps : List Mp) (context : Context) → StepIsBarren task j steps context → length (without_step j steps) + 1 ≡ length steps
   steps_count j [] context b = absurd b
   steps_count zero (step ∷ steps) context b = omega arith
   steps_count (suc j) (step ∷ steps) context b = let e = steps_count j steps (after_mp context b.0 step.args) b.2 in omega arith
 
+  -- what holds of each context behind the steps holds of the one that they lead to
   after_some : {R : Type 0} (steps : List Mp) (B : Context → Type 0) → ((c : Context) → B c → R) → (context : Context) → AfterSteps task steps B context → R
   after_some [] B go context b = go context b
   after_some (step ∷ steps) B go context b = after_some steps B go (after_mp context b.0 step.args) b.2
 
   mutual
+    -- an end without the barren step is smaller by 1
     end_without_size : (end : End) (lines i : ℕ) (path : List ℕ) (j : ℕ) (context : Context) → EndHasBarren task end (i ∷ path) j context
         → end_size (end_without lines (i ∷ path) j end) + 1 ≡ end_size end
     end_without_size (As disjunct args) lines i path j context b = absurd b
@@ -297,6 +313,7 @@ module _ (task : Task) where
     end_without_size (Cs' line s row) lines i path j context b =
         let e : sizes (branch_without lines i path j row) + 1 ≡ sizes row = row_without_size row lines i path j b.0 context b.2 in omega arith
 
+    -- branches without the barren step are smaller by 1
     row_without_size : {n : _} (row : Row_of-Body n) (lines i : ℕ) (path : List ℕ) (j : ℕ) (lists : List (List Atom)) (context : Context)
         → BranchHasBarren task row i path j lists context → sizes (branch_without lines i path j row) + 1 ≡ sizes row
     row_without_size end_of-Body lines i path j lists context b = absurd b
@@ -313,6 +330,7 @@ module _ (task : Task) where
     row_without_size (more_of-Body steps end rest) lines (suc i) path j (facts ∷ lists) context b =
         let e : sizes (branch_without lines i path j rest) + 1 ≡ sizes rest = row_without_size rest lines i path j lists context b in omega arith
 
+  -- a proof without a barren step is smaller by 1
   pub without_size : (body : Body) (path : List ℕ) (j : ℕ) (context : Context) → HasBarren task body path j context
       → size (without (length context.lines) path j body) + 1 ≡ size body
   without_size body [] j context b =

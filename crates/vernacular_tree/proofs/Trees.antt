@@ -14,11 +14,13 @@ use Rattle.vernacular_tree.proofs.Rows.{bodies_of, Cs_shut, Cs_nodes, Cs_shallow
 
 -- a proof has as many nodes as applications
 mutual
+  -- an end has as many nodes as applications
   end_length : (e : End) → length (end_nodes e) ≡ end_size e
   end_length (As disjunct args) = refl
   end_length Efq = refl
   end_length (Cs' line _ row) = let rest : length (branch_nodes row) ≡ sizes row = row_length row in omega arith
 
+  -- branches have as many nodes as applications
   row_length : {n : _} (row : Row_of-Body n) → length (branch_nodes row) ≡ sizes row
   row_length end_of-Body = refl
   row_length (more_of-Body steps end rest) =
@@ -73,6 +75,7 @@ end_stops Efq rest = tt
 end_stops (Cs' line _ row) rest = tt
 
 mutual
+  -- an end is at the front of nodes in at most one way
   end_front : (e1 e2 : End) (r1 r2 : List Node) → end_nodes e1 ++ r1 ≡ end_nodes e2 ++ r2 → (e1 ≡ e2) × (r1 ≡ r2)
   end_front (As d args) (As d2 args2) r1 r2 e = (cc, cc)
   end_front (As d args) Efq r1 r2 e = absurd (cc)
@@ -89,6 +92,7 @@ mutual
       let same = row_front row (bodies_of row2) r1 r2 (counts ∙ row_count row2) (nodes ∙ ap (λ (ns : List Node). ns ++ r2) (row_nodes row2)) in
       (Cs_shut line s row ∙ ap (λ (l : ℕ). Cs l (bodies_of row)) lines ∙ ap (Cs line2) same.0 ∙ sym (Cs_shut line2 s2 row2), same.1)
 
+  -- so many branches are at the front of nodes in at most one way
   row_front : {n : _} (row : Row_of-Body n) (bs : List Body) (r1 r2 : List Node) → branch_count row ≡ length bs
       → branch_nodes row ++ r1 ≡ flat_map preorder bs ++ r2 → (bodies_of row ≡ bs) × (r1 ≡ r2)
   row_front end_of-Body [] r1 r2 count e = (refl, e)

@@ -29,6 +29,7 @@ module _ (i : Interpretation) (constants : ℕ) (task : Task) (right : IsTask co
     pub parameters_known : AllByRecursion (λ p. p < length e) (parameters task)
     pub parameters_read : map (slice_index e) (parameters task) ≡ us
 
+  -- a true context with true facts added is true
   with_facts_true : (context : Context) (e : List ℕ) (facts : List Atom) → ContextTrue context e → AllByRecursion (FactTrue i e) facts
       → ContextTrue (with_facts context facts) e
   with_facts_true context e facts h all = record {
@@ -41,6 +42,7 @@ module _ (i : Interpretation) (constants : ℕ) (task : Task) (right : IsTask co
   }
 
   module _ (forms_true : AllByRecursion (FormTrue i) task.forms) where
+    -- where a form may be applied in a true context, its conclusion is true
     instance_true : (context : Context) (e : List ℕ) (form : Form) (args : List ℕ) → ContextTrue context e → IsWellFormed constants form
         → FormTrue i form → IsInstance context form args → ConclusionTrue i form (map (slice_index e) args)
     instance_true context e form args h formed holds inst =
@@ -53,6 +55,7 @@ module _ (i : Interpretation) (constants : ℕ) (task : Task) (right : IsTask co
         (each_both (λ atom below stands. atom_true i form.universals constants args e inst.args_known.length_is known h.named atom below
         (standing_true i e (atom_at args atom) context h.lines stands)) form.premises formed.premises inst.premises)
 
+    -- a true context stays true after modus ponens, with values for the new elements
     after_true : (context : Context) (e : List ℕ) (form : Form) (args : List ℕ) → ContextTrue context e → IsWellFormed constants form
         → IsInstance context form args → (c : ConclusionTrue i form (map (slice_index e) args)) → ContextTrue (after_mp context form args) (e ++ c.existentials)
     after_true context e form args h formed inst c =
@@ -101,6 +104,7 @@ module _ (i : Interpretation) (constants : ℕ) (task : Task) (right : IsTask co
         steps_true steps P go (after_mp context form step.args) (e ++ c.existentials)
         (after_true context e form step.args h formed then.2 c) then.3
 
+    -- an answer in a true context shows the goal
     answer_true : (context : Context) (e : List ℕ) (disjunct : ℕ) (args : List ℕ) → ContextTrue context e → IsAnswer task context disjunct args
         → ConclusionTrue i task.goal us
     answer_true context e disjunct args h answer =
@@ -124,6 +128,7 @@ module _ (i : Interpretation) (constants : ℕ) (task : Task) (right : IsTask co
           holds = some_at (AllByRecursion (AtomTrue i (us ++ values))) task.goal.disjuncts _ answer.atoms answer.disjunct_is (rw reads at true_at);
         }
 
+    -- a line of falsehood is not true
     falsum_false : (e : List ℕ) (line : Line) → LineTrue i e line → line ≡ Falsum → ⊥
     falsum_false e line h same = subst (LineTrue i e) same h
 
@@ -135,6 +140,7 @@ module _ (i : Interpretation) (constants : ℕ) (task : Task) (right : IsTask co
       end_true (Cs' line _ branches) context e h closes =
           each_true branches closes.0 context e h (each_get (LineTrue i e) context.lines line (Cases closes.0) h.lines closes.1) closes.2
 
+      -- where one case is true, its branch shows the goal
       each_true : {n : _} (branches : Row_of-Body n) (lists : List (List Atom)) (context : Context) (e : List ℕ) → ContextTrue context e
           → SomeOf (AllByRecursion (FactTrue i e)) lists → EachProves task branches lists context → ConclusionTrue i task.goal us
       each_true end_of-Body lists context e h holds each = absurd (subst (SomeOf (AllByRecursion (FactTrue i e))) each holds)
@@ -148,9 +154,11 @@ module _ (i : Interpretation) (constants : ℕ) (task : Task) (right : IsTask co
 
   module _ (placed : (c : ℕ) → i.element (i.place c)) (some : ℕ) (inhabited : i.element some)
       (given : AreElements i task.goal.universals us) (premises : AllByRecursion (AtomTrue i us) task.goal.premises) where
+    -- the elements of the constants
     abbrev places : List ℕ
     places = map i.place (counted 0 constants)
 
+    -- the premises of the goal are true at the values of the parameters
     first_line : (e : List ℕ) → Named i constants e → AllByRecursion (λ p. p < length e) (parameters task) → map (slice_index e) (parameters task) ≡ us
         → LineTrue i e (Facts (map (atom_at (parameters task)) task.goal.premises))
     first_line e named known reads = each_mapped (FactTrue i e) (atom_at (parameters task))
@@ -176,13 +184,16 @@ module _ (i : Interpretation) (constants : ℕ) (task : Task) (right : IsTask co
           parameters_read = reads;
         }
 
+    -- the places of constants are elements
     all_placed : (cs : List ℕ) → AllByRecursion i.element (map i.place cs)
     all_placed [] = tt
     all_placed (c ∷ cs) = (placed c, all_placed cs)
 
+    -- there is a place for each constant
     places_long : length places ≡ constants
     places_long = length-map (counted 0 constants) i.place ∙ counted_length 0 constants
 
+    -- the first elements are the constants'
     constants_named : Named i constants (places ++ us)
     constants_named c below =
         let long : length (places ++ us) ≡ length places + length us = length-append places us in
@@ -191,6 +202,7 @@ module _ (i : Interpretation) (constants : ℕ) (task : Task) (right : IsTask co
         let at : slice_index (counted 0 constants) c ≡ c = let r = counted_at 0 constants c below in omega arith in
         (omega arith, get_or_append_left places us 0 c (omega arith) ∙ get_or-map i.place (counted 0 constants) c 0 0 (omega arith) ∙ ap i.place at)
 
+    -- the start context is true at some list of elements
     start_true : (n : ℕ) → constants + task.goal.universals ≡ n → (e : List ℕ) × ContextTrue (start_context task) e
     start_true zero same =
         let start : task.start ≡ max 1 (constants + task.goal.universals) = right.start in
@@ -202,6 +214,7 @@ module _ (i : Interpretation) (constants : ℕ) (task : Task) (right : IsTask co
         let many : length us ≡ task.goal.universals = given.length_is in
         (places ++ us, started places (omega arith) (omega arith) (all_placed (counted 0 constants)) constants_named)
 
+    -- the goal is true where the forms are and a body proves the task
     pub goal_true : (forms_true : AllByRecursion (FormTrue i) task.forms) (body : Body) → Proves task body → ConclusionTrue i task.goal us
     goal_true forms_true body proves =
         let first = start_true (constants + task.goal.universals) refl in
