@@ -5,8 +5,6 @@ use std::alloc::Global;
 use std::process::Abort;
 use std::test::Fail;
 use text_core::{MOST_FILE_BYTES, MOST_FORMULAS};
-use tptp_grammar::SyntaxRefusal;
-use tptp_lexer::LexRefusal;
 
 const CHECK: &[&[u8]] = &[b"check", b"x.p", b"x.v"];
 
@@ -146,12 +144,23 @@ fn assert_ends(
     rt: &impl Abort,
     alloc: Global,
     texts: &[&[u8]],
+    files: MemoryFiles,
+    want: (u8, &[u8], &[u8]),
+) -> Result<(), Fail> {
+    assert_puts(rt, alloc, texts, files, (sink(alloc)?, sink(alloc)?), want)
+}
+
+/// Runs the program over these sinks, an output and one for errors, and looks at its status and at
+/// what they hold.
+fn assert_puts(
+    rt: &impl Abort,
+    alloc: Global,
+    texts: &[&[u8]],
     mut files: MemoryFiles,
+    (mut out, mut errs): (MemorySink, MemorySink),
     want: (u8, &[u8], &[u8]),
 ) -> Result<(), Fail> {
     let words = words_of(alloc, texts)?;
-    let mut out = sink(alloc)?;
-    let mut errs = sink(alloc)?;
     let status = run::<AnyWorld, _, _, _>(alloc, words.as_slice(), &mut files, &mut out, &mut errs);
     assert_eq!(rt; errs.contents(), want.2);
     assert_eq!(rt; out.contents(), want.1);
@@ -206,23 +215,20 @@ fn a_failing_fetch_is_told_by_its_file(rt: HostRuntime) -> Result<(), Fail> {
 
 #[test]
 fn a_failing_output_holds_a_part_of_the_answer(rt: HostRuntime) -> Result<(), Fail> {
-    let words = words_of(rt.alloc(), CHECK)?;
     let answer = b"accepted 2\n";
     for kept in 0u32..11 {
-        let mut files = files_of(rt.alloc(), &[(b"x.p", PROBLEM), (b"x.v", PROOF)])?;
+        let files = files_of(rt.alloc(), &[(b"x.p", PROBLEM), (b"x.v", PROOF)])?;
         let mut out = sink(rt.alloc())?;
         out.fail_at(0, kept)?;
-        let mut errs = sink(rt.alloc())?;
-        let status = run::<AnyWorld, _, _, _>(
+        let sinks = (out, sink(rt.alloc())?);
+        assert_puts(
+            &rt,
             rt.alloc(),
-            words.as_slice(),
-            &mut files,
-            &mut out,
-            &mut errs,
-        );
-        assert_eq!(rt; status, 74);
-        assert_eq!(rt; out.contents(), &answer[..kept as usize]);
-        assert_eq!(rt; errs.contents(), b"".as_slice());
+            CHECK,
+            files,
+            sinks,
+            (74, &answer[..kept as usize], b""),
+        )?;
     }
     Ok(())
 }
@@ -244,22 +250,11 @@ fn other_words_get_the_usage_text(rt: HostRuntime) -> Result<(), Fail> {
 
 #[test]
 fn a_failing_usage_text_gives_74(rt: HostRuntime) -> Result<(), Fail> {
-    let words: List<Bytes> = List::new(rt.alloc());
-    let mut files = MemoryFiles::new(rt.alloc());
-    let mut out = sink(rt.alloc())?;
     let mut errs = sink(rt.alloc())?;
     errs.fail_at(0, 2)?;
-    let status = run::<AnyWorld, _, _, _>(
-        rt.alloc(),
-        words.as_slice(),
-        &mut files,
-        &mut out,
-        &mut errs,
-    );
-    assert_eq!(rt; status, 74);
-    assert_eq!(rt; errs.contents(), b"44".as_slice());
-    assert_eq!(rt; out.contents(), b"".as_slice());
-    Ok(())
+    let sinks = (sink(rt.alloc())?, errs);
+    let files = MemoryFiles::new(rt.alloc());
+    assert_puts(&rt, rt.alloc(), &[], files, sinks, (74, b"", b"44"))
 }
 
 #[test]
@@ -325,31 +320,4 @@ fn a_problem_with_too_many_formulas_is_refused(rt: HostRuntime) -> Result<(), Fa
     let many = times(rt.alloc(), b"fof(a,axiom,p).", MOST_FORMULAS + 1)?;
     let text = b"x.p: 15 TooManyFormulas\n";
     assert_too_large(&rt, rt.alloc(), many.as_slice(), text)
-}
-
-#[test]
-fn refusals_are_displayed_by_their_names(rt: HostRuntime) -> Result<(), Fail> {
-    let lexical: [(LexRefusal, &str); 5] = [
-        (LexRefusal::BadByte(0), "BadByte"),
-        (LexRefusal::OpenQuote(0), "OpenQuote"),
-        (LexRefusal::OpenComment(0), "OpenComment"),
-        (LexRefusal::EmptyQuote(0), "EmptyQuote"),
-        (LexRefusal::Memory, "Memory"),
-    ];
-    for (refusal, name) in &lexical {
-        assert_eq!(rt; refusal.to_string(rt.alloc())?.as_str(), *name);
-    }
-    let syntax: [(SyntaxRefusal, &str); 7] = [
-        (SyntaxRefusal::Unexpected(0), "Unexpected"),
-        (SyntaxRefusal::FunctionTerm(0), "FunctionTerm"),
-        (SyntaxRefusal::EndOfText(0), "EndOfText"),
-        (SyntaxRefusal::TooDeep(0), "TooDeep"),
-        (SyntaxRefusal::Role(0), "Role"),
-        (SyntaxRefusal::FreeVariable(0), "FreeVariable"),
-        (SyntaxRefusal::Memory, "Memory"),
-    ];
-    for (refusal, name) in &syntax {
-        assert_eq!(rt; refusal.to_string(rt.alloc())?.as_str(), *name);
-    }
-    Ok(())
 }

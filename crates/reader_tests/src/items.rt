@@ -187,3 +187,23 @@ fn a_formula_opens_at_most_so_many_levels(rt: HostRuntime) -> Result<(), Fail> {
     );
     Ok(())
 }
+
+// The text of a refusal is its variant's name.
+#[test]
+fn refusals_are_shown(rt: HostRuntime) -> Result<(), Fail> {
+    let shown = format!(in rt.alloc();
+        "{} {} {} {} {} {} {}",
+        SyntaxRefusal::Unexpected(1),
+        SyntaxRefusal::FunctionTerm(2),
+        SyntaxRefusal::EndOfText(3),
+        SyntaxRefusal::TooDeep(4),
+        SyntaxRefusal::Role(5),
+        SyntaxRefusal::FreeVariable(6),
+        SyntaxRefusal::Memory
+    )?;
+    assert_eq!(rt;
+        shown.as_str(),
+        "Unexpected FunctionTerm EndOfText TooDeep Role FreeVariable Memory"
+    );
+    Ok(())
+}
