@@ -6,9 +6,12 @@ use Rattle.token_grammar.specs.Watch.{IsDecided, watcher_of}
 use Rattle.token_grammar.specs.Making.{Choice, element, RowValues}
 use Rattle.token_grammar.specs.Productions.{Makers, made_at, making_by}
 use Rattle.token_grammar.specs.Building.{IsBuilding, RowLaws, after_row}
-pub use Rattle.token_grammar.proofs.Spelling.{joined, spelled_taken}
+pub use Rattle.token_grammar.proofs.Spelling.{joined, spelled_taken, taken_spelled}
 pub use Rattle.token_grammar.proofs.Agreement.{answers_agree, one_taking_of_text, taken_length}
 pub use Rattle.token_grammar.proofs.Answered.{tokens_answered}
+pub use Rattle.token_grammar.proofs.OfValues.{part_value, value_spelled}
+pub use Rattle.token_grammar.proofs.OneValue.{one_value}
+pub use Rattle.token_grammar.proofs.Telling.{seen_value}
 pub use Rattle.token_grammar.proofs.Refused.{refusals_agree, accepted_not_refused}
 pub use Rattle.token_grammar.proofs.Seeing.{sees_both, sees_apart, sees_keep}
 

@@ -10,3 +10,7 @@ pub use Rattle.tptp_lexer.proofs.Same.{same_kind-is}
 pub use Rattle.tptp_lexer.proofs.Further.{behind-here, behind-other, more-none, more-next, with_front-append, more-goes_on, reread_front, further}
 pub use Rattle.tptp_lexer.proofs.ListsRead.{ReadsSpelled, name_from-naming, name_from-file, length_behind, listed_read, between_read, variables_read, selection_read, between_of, OpenedList, between_opens, between_behind}
 pub use Rattle.tptp_lexer.proofs.Numbering.{number_of_same}
+pub use Rattle.tptp_lexer.proofs.Printed.{Any, NoWord, BlankNext, Gives, Both, IsOne, IsToken, nothing, one_blank, one_token, seen, before, followed}
+pub use Rattle.tptp_lexer.proofs.PrintedSigns.{open_parenthesis, close_parenthesis, open_bracket, close_bracket, comma, dot, led_sign, gap_after, blank_after, blank_before, tilde, exclamation, question, colon, equals, differs, ampersand, bar}
+pub use Rattle.tptp_lexer.proofs.PrintedWords.{lower_word, dollar_word, integer, quoted, word, naming, variable}
+pub use Rattle.tptp_lexer.proofs.Joined.{led, joined_led}

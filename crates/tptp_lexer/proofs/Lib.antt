@@ -26,3 +26,7 @@ pub mod Further
 pub mod ListsRead
 pub mod Numbering
 pub mod Laws
+pub mod Printed
+pub mod PrintedSigns
+pub mod PrintedWords
+pub mod Joined

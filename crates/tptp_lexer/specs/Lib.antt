@@ -11,3 +11,4 @@ pub mod Refused
 pub mod Scanning
 pub mod Spans
 pub mod Stored
+pub mod Written

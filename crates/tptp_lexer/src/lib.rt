@@ -18,6 +18,7 @@ mod refusal;
 mod sign;
 mod token;
 mod token_list;
+mod writer;
 
 pub use cursor::Cursor;
 pub use integer::is_integer;
@@ -32,3 +33,4 @@ pub use reader::{Naming, NotRead, Reads};
 pub use refusal::LexRefusal;
 pub use token::Token;
 pub use token_list::Tokens;
+pub use writer::{put_file, put_name, put_word};

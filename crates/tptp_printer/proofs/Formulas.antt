@@ -13,9 +13,10 @@ use Rattle.text_core.specs.declared.limits.TheConstants.{MOST_LEVELS}
 use Rattle.tptp_grammar.specs.Spells.{Chain, conjunction, disjunction, chain_kind, chain_of, for_all, there_is, SpellsVariables, SpellsFormula, alone, chain, binary, SpellsRest, end, further, SpellsUnitary, brackets, negation, quantified, truth, atom, equation, inequality}
 use Rattle.tptp_printer.specs.Canonical.{term_text, arguments_text, word_text, op_text, variables_text, in_unit, formula_text, chain_text}
 use Rattle.tptp_printer.specs.Named.{TermIsNamed, IsNamed, EachIsNamed}
-use Rattle.tptp_printer.proofs.Pieces.{Any, NoWord, Gives, Both, IsOne, nothing, seen, before, followed}
-use Rattle.tptp_printer.proofs.Signs.{open_parenthesis, close_parenthesis, blank_after, tilde, exclamation, question, equals, differs, ampersand, bar, connective}
-use Rattle.tptp_printer.proofs.Words.{dollar_word, word}
+use Rattle.tptp_lexer.proofs.Laws.{Any, NoWord, Gives, Both, IsOne, nothing, seen, before, followed}
+use Rattle.tptp_lexer.proofs.Laws.{open_parenthesis, close_parenthesis, blank_after, tilde, exclamation, question, equals, differs, ampersand, bar}
+use Rattle.tptp_printer.proofs.Connectives.{connective}
+use Rattle.tptp_lexer.proofs.Laws.{dollar_word, word}
 use Rattle.tptp_printer.proofs.Listed.{term, arguments, arguments_follow, variables}
 use Rattle.tptp_printer.proofs.Shut.{members_of, as_built}
 

@@ -17,9 +17,9 @@ use Rattle.tptp_grammar.specs.Spells.{SpellsFormula, no_annotation, SpellsFof, S
 use Rattle.tptp_lexer.specs.Spelling.{IsNaming, SpellsName, SpellsListed}
 use Rattle.tptp_printer.specs.Canonical.{name_text, selection_text, item_text, items_text, problem_text}
 use Rattle.tptp_printer.specs.Named.{SelectionIsNamed, ItemIsNamed}
-use Rattle.tptp_printer.proofs.Pieces.{Any, NoWord, Gives, Both, IsOne, IsToken, nothing, seen, followed}
-use Rattle.tptp_printer.proofs.Signs.{open_parenthesis, close_parenthesis, open_bracket, close_bracket, comma, dot, gap_after}
-use Rattle.tptp_printer.proofs.Words.{lower_word, naming, quoted}
+use Rattle.tptp_lexer.proofs.Laws.{Any, NoWord, Gives, Both, IsOne, IsToken, nothing, seen, followed}
+use Rattle.tptp_lexer.proofs.Laws.{open_parenthesis, close_parenthesis, open_bracket, close_bracket, comma, dot, gap_after}
+use Rattle.tptp_lexer.proofs.Laws.{lower_word, naming, quoted}
 use Rattle.tptp_printer.proofs.Listed.{listed, between}
 use Rattle.tptp_printer.proofs.Formulas.{whole}
 

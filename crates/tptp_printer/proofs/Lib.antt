@@ -1,8 +1,5 @@
-pub mod Joined
 pub mod Opened
-pub mod Pieces
-pub mod Signs
-pub mod Words
+pub mod Connectives
 pub mod Listed
 pub mod Shut
 pub mod Formulas

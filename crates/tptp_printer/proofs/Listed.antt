@@ -14,9 +14,9 @@ use Rattle.tptp_grammar.specs.Spells.{SpellsTerm, SpellsArguments, SpellsVariabl
 use Rattle.tptp_lexer.specs.Spelling.{none, more, SpellsVariable, SpellsListed, SpellsBetween}
 use Rattle.tptp_printer.specs.Canonical.{term_text, joined_texts, arguments_text, variables_text}
 use Rattle.tptp_printer.specs.Named.{TermIsNamed}
-use Rattle.tptp_printer.proofs.Pieces.{Any, NoWord, Gives, Both, IsOne, nothing, seen, before, followed}
-use Rattle.tptp_printer.proofs.Signs.{open_parenthesis, close_parenthesis, open_bracket, close_bracket, comma, colon}
-use Rattle.tptp_printer.proofs.Words.{word, variable}
+use Rattle.tptp_lexer.proofs.Laws.{Any, NoWord, Gives, Both, IsOne, nothing, seen, before, followed}
+use Rattle.tptp_lexer.proofs.Laws.{open_parenthesis, close_parenthesis, open_bracket, close_bracket, comma, colon}
+use Rattle.tptp_lexer.proofs.Laws.{word, variable}
 
 -- a value, a comma and further values
 with_comma : {X : Type 0} (spells : X → List Token → Type 0) (x y : X) (ys : List X) (ts : List Token) → Both (Both (spells x) (IsOne kind.Comma)) (SpellsListed spells (y ∷ ys)) ts → SpellsListed spells (x ∷ y ∷ ys) ts

@@ -1,7 +1,7 @@
 -- The canonical text of a problem: one item a line, blanks and brackets in one way. Source: the
 -- TPTP syntax, FOF.
-use Rattle.std.specs.Prelude.{◌==◌, ◌||◌, List, [], ◌∷◌, ◌++◌, map, Option, Some, None, codes, if◌then◌else◌}
-use Rattle.text_core.specs.Names.{Text, is_lower, is_word_from}
+use Rattle.std.specs.Prelude.{List, [], ◌∷◌, ◌++◌, map, Option, Some, None, codes}
+use Rattle.text_core.specs.Names.{Text}
 use Rattle.logic_core.specs.declared.formula.Term.{Term}
 use Rattle.logic_core.specs.declared.formula.Term.TheVariants.{Variable, Constant}
 use Rattle.logic_core.specs.declared.formula.Op.{Op}
@@ -10,36 +10,13 @@ use Rattle.logic_core.specs.declared.formula.Formula.{Formula, True, False, Pred
 use Rattle.logic_core.specs.declared.problem.Fof.{Fof}
 use Rattle.logic_core.specs.declared.problem.Item.{Item}
 use Rattle.logic_core.specs.declared.problem.Item.TheVariants.{Fof as ItemFof, Include}
-use Rattle.tptp_lexer.specs.Kinds.{is_integer}
+pub use Rattle.tptp_lexer.specs.Written.{escaped, quoted_text, word_text, name_text, joined_texts}
 use Rattle.tptp_grammar.specs.Roles.{role_text}
-
--- the quote (39) and the backslash (92) behind a backslash, other bytes as they are
-abbrev pub escaped : Text → Text
-escaped [] = []
-escaped (b ∷ bs) = if b == 39 || b == 92 then 92 ∷ b ∷ escaped bs else b ∷ escaped bs
-
--- a name in single quotes
-abbrev pub quoted_text : Text → Text
-quoted_text name = 39 ∷ (escaped name ++ (39 ∷ []))
-
--- a predicate or a constant, in quotes where it is no lower word
-abbrev pub word_text : Text → Text
-word_text name = if is_word_from is_lower name then name else quoted_text name
-
--- the name of a formula, in quotes where it is neither a lower word nor an integer
-abbrev pub name_text : Text → Text
-name_text name = if is_word_from is_lower name || is_integer name then name else quoted_text name
 
 -- a term
 abbrev pub term_text : Term → Text
 term_text (Variable x) = x
 term_text (Constant c) = word_text c
-
--- texts with a separator between each two
-abbrev pub joined_texts : Text → List Text → Text
-joined_texts separator [] = []
-joined_texts separator (x ∷ []) = x
-joined_texts separator (x ∷ y ∷ ys) = x ++ separator ++ joined_texts separator (y ∷ ys)
 
 -- the arguments of an atom in brackets; nothing where there are none
 abbrev pub arguments_text : List Term → Text

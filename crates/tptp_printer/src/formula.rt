@@ -3,9 +3,9 @@ ghost use Rattle.std.specs.List.{AllByRecursion};
 ghost use Rattle.tptp_printer.specs.Canonical.{joined_texts, op_text, variables_text, in_unit, formula_text};
 ghost use Rattle.tptp_printer.specs.Named.{IsNamed};
 
-use crate::name::put_word;
 use crate::term::{put_arguments, put_equation};
 use logic_core::{Bytes, Formula, Memory, Name, Op};
+use tptp_lexer::put_word;
 
 /// The sign of a connective.
 fn op_sign(op: Op) -> &'static [u8]
@@ -31,7 +31,7 @@ fn put_op(op: Op, out: &mut Bytes) -> Result<(), Memory>
 }
 
 /// Appends variables with a comma between each two.
-#[tactic(auto, using(crate::proofs::Joined::joined_led))]
+#[tactic(auto, using(tptp_lexer::proofs::Laws::joined_led))]
 fn put_names(names: &[Name], out: &mut Bytes) -> Result<(), Memory>
     ensures { OnOk result (out.new ≡ out.old ++ joined_texts (codes ",") names.now) }
 {
@@ -72,7 +72,7 @@ fn put_unit(formula: &Formula, out: &mut Bytes) -> Result<(), Memory>
 
 /// Appends the members of a chain with a sign between each two.
 #[cycle(formula)]
-#[tactic(auto, using(crate::proofs::Joined::joined_led))]
+#[tactic(auto, using(tptp_lexer::proofs::Laws::joined_led))]
 fn put_chain(members: &[Formula], sign: &[u8], out: &mut Bytes) -> Result<(), Memory>
     ensures text { OnOk result (out.new ≡ out.old
         ++ joined_texts sign.now (map (λ g. in_unit g (formula_text g)) members.now)) }

@@ -7,8 +7,8 @@ ghost use Rattle.tptp_printer.specs.Canonical.{name_text, joined_texts, selectio
 ghost use Rattle.tptp_printer.specs.Named.{SelectionIsNamed, ItemIsNamed};
 
 use crate::formula::put_formula;
-use crate::name::{put_file, put_name};
 use logic_core::{Bytes, Fof, Item, List, Memory, Name, Role};
+use tptp_lexer::{put_file, put_name};
 
 /// The word of a role.
 fn role_word(role: Role) -> &'static [u8]
@@ -28,7 +28,7 @@ fn role_word(role: Role) -> &'static [u8]
 }
 
 /// Appends the names of a selection with a comma between each two.
-#[tactic(auto, using(crate::proofs::Joined::joined_led))]
+#[tactic(auto, using(tptp_lexer::proofs::Laws::joined_led))]
 fn put_names(names: &[Name], out: &mut Bytes) -> Result<(), Memory>
     ensures text { OnOk result (out.new ≡ out.old
         ++ joined_texts (codes ",") (map name_text names.now)) }

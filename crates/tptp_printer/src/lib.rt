@@ -3,7 +3,6 @@
 
 mod formula;
 mod item;
-mod name;
 mod print;
 mod term;
 

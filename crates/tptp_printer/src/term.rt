@@ -3,8 +3,8 @@ ghost use Rattle.std.specs.List.{AllByRecursion};
 ghost use Rattle.tptp_printer.specs.Canonical.{term_text, joined_texts, arguments_text};
 ghost use Rattle.tptp_printer.specs.Named.{TermIsNamed};
 
-use crate::name::put_word;
 use logic_core::{Bytes, Memory, Term};
+use tptp_lexer::put_word;
 
 /// Appends a term.
 fn put_term(term: &Term, out: &mut Bytes) -> Result<(), Memory>
@@ -18,7 +18,7 @@ fn put_term(term: &Term, out: &mut Bytes) -> Result<(), Memory>
 }
 
 /// Appends terms with a comma between each two.
-#[tactic(auto, using(crate::proofs::Joined::joined_led))]
+#[tactic(auto, using(tptp_lexer::proofs::Laws::joined_led))]
 fn put_terms(terms: &[Term], out: &mut Bytes) -> Result<(), Memory>
     ensures text { OnOk result (out.new ≡ out.old
         ++ joined_texts (codes ",") (map term_text terms.now)) }

@@ -2,7 +2,7 @@ use Rattle.std.proofs.Common.{◌≡◌, ◌++◌, drop, map}
 use Rattle.std.specs.List.{AllByRecursion}
 use Rattle.tptp_printer.specs.Canonical.{joined_texts, in_unit, formula_text}
 use Rattle.tptp_printer.specs.Named.{IsNamed}
-use Rattle.tptp_printer.proofs.Joined.{led}
+use Rattle.tptp_lexer.proofs.Laws.{led}
 use Rattle.tptp_printer.proofs.formula.+formula.Given as goal
 
 -- what is appended, and what the other members add

@@ -1,6 +1,6 @@
 use Rattle.std.proofs.Common.{◌≡◌, ◌++◌, drop, codes}
 use Rattle.tptp_printer.specs.Canonical.{joined_texts}
-use Rattle.tptp_printer.proofs.Joined.{led}
+use Rattle.tptp_lexer.proofs.Laws.{led}
 use Rattle.tptp_printer.proofs.formula.put_names.Given as goal
 
 -- what is appended, and what the other names add

@@ -2,7 +2,7 @@ use Rattle.std.proofs.Common.{◌≡◌, ◌++◌, drop, map, codes}
 use Rattle.std.specs.List.{AllByRecursion}
 use Rattle.text_core.specs.NameTexts.{IsNameText}
 use Rattle.tptp_printer.specs.Canonical.{name_text, joined_texts}
-use Rattle.tptp_printer.proofs.Joined.{led}
+use Rattle.tptp_lexer.proofs.Laws.{led}
 use Rattle.tptp_printer.proofs.item.put_names.Given as goal
 
 -- what is appended, and what the other names add

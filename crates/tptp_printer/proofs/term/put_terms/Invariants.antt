@@ -2,7 +2,7 @@ use Rattle.std.proofs.Common.{◌≡◌, ◌++◌, drop, map, codes}
 use Rattle.std.specs.List.{AllByRecursion}
 use Rattle.tptp_printer.specs.Canonical.{term_text, joined_texts}
 use Rattle.tptp_printer.specs.Named.{TermIsNamed}
-use Rattle.tptp_printer.proofs.Joined.{led}
+use Rattle.tptp_lexer.proofs.Laws.{led}
 use Rattle.tptp_printer.proofs.term.put_terms.Given as goal
 
 -- what is appended, and what the other terms add

@@ -1,9 +1,9 @@
 ghost use Rattle.std.specs.Prelude.{◌≡◌, ◌++◌, OnOk};
 ghost use Rattle.text_core.specs.NameTexts.{IsNameText};
-ghost use Rattle.tptp_printer.specs.Canonical.{escaped, quoted_text, word_text, name_text};
+ghost use Rattle.tptp_lexer.specs.Written.{escaped, quoted_text, word_text, name_text};
 
+use crate::integer::is_integer;
 use text_core::{Bytes, Memory, Name, is_lower_word};
-use tptp_lexer::is_integer;
 
 /// Appends bytes, with a backslash before each quote and backslash.
 fn put_escaped(bytes: &[u8], out: &mut Bytes) -> Result<(), Memory>
@@ -27,8 +27,9 @@ fn put_quoted(bytes: &[u8], out: &mut Bytes) -> Result<(), Memory>
     out.push(b'\'')
 }
 
-/// Appends a predicate or a constant.
-pub(crate) fn put_word(name: &Name, out: &mut Bytes) -> Result<(), Memory>
+/// Appends a word that names a predicate or a constant: as it is where it is a lower word, else in
+/// quotes. `Memory` is want of memory. Source: the TPTP syntax.
+pub fn put_word(name: &Name, out: &mut Bytes) -> Result<(), Memory>
     ensures text { OnOk result (out.new ≡ out.old ++ word_text name.now) }
     ensures named { IsNameText name.now }
 {
@@ -40,8 +41,9 @@ pub(crate) fn put_word(name: &Name, out: &mut Bytes) -> Result<(), Memory>
     }
 }
 
-/// Appends the name of a formula.
-pub(crate) fn put_name(name: &Name, out: &mut Bytes) -> Result<(), Memory>
+/// Appends the name of a formula: as it is where it is a lower word or an integer, else in quotes.
+/// `Memory` is want of memory. Source: the TPTP syntax.
+pub fn put_name(name: &Name, out: &mut Bytes) -> Result<(), Memory>
     ensures text { OnOk result (out.new ≡ out.old ++ name_text name.now) }
     ensures named { IsNameText name.now }
 {
@@ -53,8 +55,8 @@ pub(crate) fn put_name(name: &Name, out: &mut Bytes) -> Result<(), Memory>
     }
 }
 
-/// Appends the name of a file.
-pub(crate) fn put_file(name: &Name, out: &mut Bytes) -> Result<(), Memory>
+/// Appends the name of a file, in quotes. `Memory` is want of memory. Source: the TPTP syntax.
+pub fn put_file(name: &Name, out: &mut Bytes) -> Result<(), Memory>
     ensures text { OnOk result (out.new ≡ out.old ++ quoted_text name.now) }
     ensures named { IsNameText name.now }
 {

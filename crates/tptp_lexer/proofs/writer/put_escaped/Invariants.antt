@@ -1,6 +1,6 @@
 use Rattle.std.proofs.Common.{◌≡◌, ◌++◌, drop}
-use Rattle.tptp_printer.specs.Canonical.{escaped}
-use Rattle.tptp_printer.proofs.name.put_escaped.Given as goal
+use Rattle.tptp_lexer.specs.Written.{escaped}
+use Rattle.tptp_lexer.proofs.writer.put_escaped.Given as goal
 
 -- what is appended, and what the other bytes add
 abbrev pub invariant-loop-byte : goal.invariant-loop-byte

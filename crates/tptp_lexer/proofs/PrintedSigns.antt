@@ -3,15 +3,11 @@ use Rattle.std.proofs.Common.{◌≡◌, ℕ, true, List, [], ◌∷◌, ◌++�
 use Rattle.std.proofs.lemmas.Bool.{eqb-true}
 use Rattle.std.proofs.lemmas.List.{append-nil}
 use Rattle.text_core.specs.Names.{Text}
-use Rattle.logic_core.specs.declared.formula.Op.{Op}
-use Rattle.logic_core.specs.declared.formula.Op.TheVariants as op
 use Rattle.tptp_lexer.specs.declared.kind.Kind.{Kind}
 use Rattle.tptp_lexer.specs.declared.kind.Kind.TheVariants as kind
 use Rattle.tptp_lexer.specs.Kinds.{kind_of, begins_with}
 use Rattle.tptp_lexer.specs.Tokens.{Token, is_blank}
-use Rattle.tptp_grammar.specs.Spells.{op_kind}
-use Rattle.tptp_printer.specs.Canonical.{op_text}
-use Rattle.tptp_printer.proofs.Pieces.{Any, BlankNext, Gives, IsOne, one_blank, one_token, seen, followed}
+use Rattle.tptp_lexer.proofs.Printed.{Any, BlankNext, Gives, IsOne, one_blank, one_token, seen, followed}
 
 -- a sign that never goes on
 sign : (k : Kind) (text : Text) → kind_of text ≡ Some k → ((c : ℕ) (cs : Text) → kind_of (text ++ c ∷ cs) ≡ None) → Gives Any text (IsOne k)
@@ -53,7 +49,7 @@ blank_is [] c cs e h = absurd (cc)
 blank_is (d ∷ ds) c cs e h = let same : d ≡ c = cc in sym same ∙ eqb-true d 32 h
 
 -- a sign in front of a blank
-led_sign : (k : Kind) (text : Text) → kind_of text ≡ Some k → ((cs : Text) → kind_of (text ++ 32 ∷ cs) ≡ None) → Gives BlankNext text (IsOne k)
+pub led_sign : (k : Kind) (text : Text) → kind_of text ≡ Some k → ((cs : Text) → kind_of (text ++ 32 ∷ cs) ≡ None) → Gives BlankNext text (IsOne k)
 led_sign k text is longer = seen (λ ts s. (s.0, s.1, s.3)) (one_token k text (λ rest may. record { token = is; longest = λ c more after e. rw (blank_is rest c (more ++ after) e may) (longer more) }))
 
 -- a blank behind a piece, which leaves no token
@@ -65,7 +61,7 @@ pub blank_after : {may : Text → Type 0} {text : Text} {S : List Token → Type
 blank_after follows p = gap_after 32 refl follows p
 
 -- a blank before a piece
-blank_before : {may : Text → Type 0} {text : Text} {S : List Token → Type 0} → Gives may text S → Gives may (codes " " ++ text) S
+pub blank_before : {may : Text → Type 0} {text : Text} {S : List Token → Type 0} → Gives may text S → Gives may (codes " " ++ text) S
 blank_before {S = S} p = seen (λ ts s. subst S (sym (s.4 ∙ ap (λ (us : List Token). us ++ s.1) s.2)) s.3) (followed (one_blank 32 refl) p (λ rest may. tt))
 
 -- the signs that are printed with a blank behind, or on both sides
@@ -107,13 +103,3 @@ ampersand = blank_before (blank_after (λ rest. refl) (led_sign kind.Ampersand (
 pub bar : Gives Any (codes " | ") (IsOne kind.Bar)
 unfolding kind_of
 bar = blank_before (blank_after (λ rest. refl) (led_sign kind.Bar (codes "|") refl (λ cs. refl)))
-
--- a connective in front of a blank
-pub connective : (o : Op) → Gives BlankNext (op_text o) (IsOne (op_kind o))
-unfolding kind_of
-connective op.Implies = led_sign kind.Implies (codes "=>") refl (λ cs. refl)
-connective op.Implied = led_sign kind.Implied (codes "<=") refl (λ cs. refl)
-connective op.Iff = led_sign kind.Iff (codes "<=>") refl (λ cs. refl)
-connective op.Xor = led_sign kind.Xor (codes "<~>") refl (λ cs. refl)
-connective op.Nor = led_sign kind.Nor (codes "~|") refl (λ cs. refl)
-connective op.Nand = led_sign kind.Nand (codes "~&") refl (λ cs. refl)

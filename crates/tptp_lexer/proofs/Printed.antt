@@ -4,7 +4,7 @@ use Rattle.text_core.specs.Names.{Text, is_word}
 use Rattle.tptp_lexer.specs.declared.kind.Kind.{Kind}
 use Rattle.tptp_lexer.specs.Kinds.{begins_with}
 use Rattle.tptp_lexer.specs.Tokens.{Token, IsLongest, Reads, IsEnd, is_blank, blank, token}
-use Rattle.tptp_lexer.proofs.Laws.{stops}
+use Rattle.tptp_lexer.proofs.Runs.{stops}
 
 -- any rest may follow
 abbrev pub Any : Text → Type 0

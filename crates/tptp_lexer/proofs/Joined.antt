@@ -2,7 +2,7 @@
 use Rattle.std.proofs.Common.{◌≡◌, List, [], ◌∷◌, ◌++◌, refl, ap, ◌∙◌, sym, append_assoc}
 use Rattle.std.proofs.lemmas.List.{append-nil}
 use Rattle.text_core.specs.Names.{Text}
-use Rattle.tptp_printer.specs.Canonical.{joined_texts}
+use Rattle.tptp_lexer.specs.Written.{joined_texts}
 
 -- texts, the first behind some bytes and each further one behind the separator
 abbrev pub led : Text → Text → List Text → Text

@@ -10,10 +10,12 @@ use Rattle.tptp_lexer.specs.declared.kind.Kind.{Kind}
 use Rattle.tptp_lexer.specs.declared.kind.Kind.TheVariants.{Lower, Upper, Quoted, Integer, Dollar}
 use Rattle.tptp_lexer.specs.Kinds.{is_printable, is_body, is_integer}
 use Rattle.tptp_lexer.specs.Tokens.{Token, unescaped, named}
-use Rattle.tptp_lexer.proofs.Laws.{lower_longest, upper_longest, dollar_longest, integer_longest, word_longest, inside_of, body_plain, body_escape}
+use Rattle.tptp_lexer.proofs.Whole.{lower_longest, upper_longest, dollar_longest, integer_longest}
+use Rattle.tptp_lexer.proofs.Quoted.{word_longest, inside_of}
+use Rattle.tptp_lexer.proofs.Bodies.{body_plain, body_escape}
 use Rattle.tptp_lexer.specs.Spelling.{IsWord, IsNaming, SpellsName, SpellsVariable}
-use Rattle.tptp_printer.specs.Canonical.{escaped, quoted_text, word_text, name_text}
-use Rattle.tptp_printer.proofs.Pieces.{Any, NoWord, Gives, IsToken, one_token, seen, before}
+use Rattle.tptp_lexer.specs.Written.{escaped, quoted_text, word_text, name_text}
+use Rattle.tptp_lexer.proofs.Printed.{Any, NoWord, Gives, IsToken, one_token, seen, before}
 
 -- a word in lower case
 pub lower_word : (x : Text) → is_word_from is_lower x ≡ true → Gives NoWord x (IsToken Lower x)
@@ -28,7 +30,7 @@ pub dollar_word : (x : Text) → is_word_from is_lower x ≡ true → Gives NoWo
 dollar_word x h = one_token Dollar (36 ∷ x) (λ rest may. dollar_longest x rest h may)
 
 -- an integer
-integer : (x : Text) → is_integer x ≡ true → Gives NoWord x (IsToken Integer x)
+pub integer : (x : Text) → is_integer x ≡ true → Gives NoWord x (IsToken Integer x)
 integer x h = one_token Integer x (λ rest may. integer_longest x rest h may)
 
 -- quotes
