@@ -5,9 +5,10 @@ use text_core::{
     is_lower_word, is_printable, is_upper, is_word,
 };
 
-// Whether a list is as it is behind a push, an extension and two cuts.
+// Whether a list is as it is behind a push, two extensions and two cuts.
 fn keeps_what_it_is_given(alloc: Global) -> Result<bool, Memory> {
-    let mut bytes = Bytes::from_slice(alloc, b"ab")?;
+    let mut bytes = Bytes::from_slice(alloc, b"a")?;
+    bytes.append(Bytes::from_slice(alloc, b"b")?)?;
     bytes.extend_from_slice(b"cd")?;
     bytes.push(b'e')?;
     let whole = bytes.as_slice() == b"abcde".as_slice() && bytes.get(4).copied() == Some(b'e');

@@ -228,7 +228,7 @@ longer name names true = omega arith
 longer name names false = omega (arith, length-append names (name ∷ []))
 
 -- a name has a number once it is added
-number_below : (name : Text) (names : List Text) → name_number names name < length (with_name names name)
+pub number_below : (name : Text) (names : List Text) → name_number names name < length (with_name names name)
 number_below name [] = omega arith
 number_below name (x ∷ names) = by (pointwise nat_eq name x) (list_any (pointwise nat_eq name) names) (number_below name names)
   where

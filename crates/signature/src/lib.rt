@@ -1,7 +1,7 @@
 //! The numbers of predicate symbols and of constants, in order of first occurrence.
 #![tactic(auto)]
 
-mod names;
+pub mod names;
 mod tables;
 
 pub use tables::Tables;

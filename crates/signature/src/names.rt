@@ -9,11 +9,7 @@ use text_core::{Memory, Name};
 
 /// The number of a name, which goes last if it is new. `Memory` is want of memory, and the names
 /// are as before.
-pub(crate) fn number_of(
-    alloc: Global,
-    names: &mut IndexSet<Name>,
-    name: &Name,
-) -> Result<u32, Memory>
+pub fn number_of(alloc: Global, names: &mut IndexSet<Name>, name: &Name) -> Result<u32, Memory>
     requires few { length names.old.keys < 4294967295 }
     requires distinct { IsDistinct (pointwise nat_eq) names.old.keys }
     ensures number { IfOk result (λ number. number ≡ name_number names.old.keys name.now) }
@@ -32,7 +28,7 @@ pub(crate) fn number_of(
 }
 
 /// The number of a name that is there.
-pub(crate) fn found(names: &IndexSet<Name>, name: &Name) -> Option<u32>
+pub fn found(names: &IndexSet<Name>, name: &Name) -> Option<u32>
     requires { length names.now.keys < 4294967296 }
     ensures { result ≡ found_name names.now.keys name.now }
 {

@@ -85,6 +85,17 @@ impl<T: Drop> List<T> {
         Ok(())
     }
 
+    /// Appends the items of another list. `Memory` is want of memory: they are given up, and the
+    /// list is as before.
+    pub fn append(&mut self, more: List<T>) -> Result<(), Memory>
+        ensures ok { OnOk result (self.new ≡ self.old ++ more) }
+        ensures err { OnErr result (self.new ≡ self.old) }
+    {
+        let mut more = more.items;
+        self.items.append(&mut more)?;
+        Ok(())
+    }
+
     /// Keeps the first items, so many at most.
     pub fn truncate(&mut self, most: usize)
         ensures { self.new ≡ take most self.old }
