@@ -10,10 +10,12 @@ use Rattle.tptp_grammar.specs.declared.item_part.ItemPart.TheVariants.{Token, Fo
 use Rattle.tptp_grammar.specs.Parts.{fof_items}
 use Rattle.tptp_grammar.specs.Plan.{items_plan}
 
+-- each part passes the test by itself
 part_law : (p : ItemPart) → IsTrue (part_test fof_items items_plan p)
 part_law (Token k) = refl
 part_law _ = refl
 
+-- each part passes the test at each token
 token_law : (p : ItemPart) (t : Mark) → IsTrue (token_test fof_items items_plan p t)
 token_law (Token k) t = refl
 token_law FofWord t = refl
@@ -56,5 +58,6 @@ token_law (BracketList level) (Other kind.Lower) = refl
 token_law (ListBody level) (Other kind.Lower) = refl
 token_law _ _ = refl
 
+-- one token is enough to read items
 pub items_law : IsPredictive fof_items items_plan
 items_law = record { at_part = part_law; at_token = token_law }

@@ -159,6 +159,7 @@ rows_made (ListBody level) = (inl kept & tt) & (inr (inl (to 0 kept)) & inr (inl
     tt) & tt
 rows_made _ = tt
 
+-- what the rows are made of that the members of a printed alternative stand for
 made_for : (p : Printed) → AlternativesAreMade fof_items made (made p) (printed_alternatives p)
 made_for (one p) = tt
 made_for items = (inl (to 0 done) & tt) & (inl (to 1 kept) & tt) & tt
@@ -204,6 +205,7 @@ made_for (generals level) = (inl (keep (to 0 done)) & tt) & (inl (keep (to 1 kep
 made_for (datum level) = (inl (to 0 kept) & tt) & (inl (to 1 (keep (to 0 done))) & tt) &
     (inl (to 1 (keep (to 1 kept))) & tt) & tt
 
+-- a token is spelled by a row that its part stands for
 token_row : (p : ItemPart) (t : Mark) → IsTrue (fof_items.takes p t) →
     (row : List Printed) × IsAmong row (printed_rows p) × Spelled printed_items row (t ∷ [])
 token_row (Token k) t taken = (one (Token k) ∷ [], inl refl, Spelled.token taken Spelled.none)
@@ -225,21 +227,26 @@ token_row ClosesArguments t taken =
 token_row Plain t taken = (one Plain ∷ [], inl refl, Spelled.token taken Spelled.none)
 token_row _ t taken = absurd (false≢true taken)
 
+-- a token of the printed grammar is spelled by a row of the factored one
 token_made : (p : Printed) (t : Mark) → IsTrue (printed_items.takes p t) →
     (row : List ItemPart) × IsAmong row (made p) × Spelled fof_items row (t ∷ [])
 token_made (one p) t taken = (p ∷ [], inl refl, Spelled.token taken Spelled.none)
 token_made _ t taken = absurd (false≢true taken)
 
+-- each part stands for some row
 some_rows : (p : ItemPart) → is_empty (printed_rows p) ≡ false
 some_rows (Token k) = refl
 some_rows _ = refl
 
+-- each printed part stands for some row
 some_made : (p : Printed) → is_empty (made p) ≡ false
 some_made (one p) = refl
 some_made _ = refl
 
+-- the factored grammar becomes the printed one
 pub printed_law : Translates fof_items printed_items printed_rows
 printed_law = record { some = some_rows; takes = token_row; alternatives = rows_made }
 
+-- the printed grammar becomes the factored one
 pub factored_law : Translates printed_items fof_items made
 factored_law = record { some = some_made; takes = token_made; alternatives = made_for }
