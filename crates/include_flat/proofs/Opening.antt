@@ -29,12 +29,21 @@ use Rattle.include_flat.specs.Progress.{Refuses, IsRefusedAt, Refused, OpensTo, 
 use Rattle.include_flat.proofs.Told.{where_told, wherever_told}
 use Rattle.include_flat.proofs.SomeWalk.{some_walk, some_walk_of_bytes}
 
--- the walk over a file begins by asking for it
-asked : (held : Held) (name : Text) (left : ℕ) (selections : Selections) (entries : List Entry) → WalksFile held (suc left) selections name entries →
-    (entry : Entry) × (back : List Entry) × WalksFile held (suc left) selections name (entry ∷ back) × AsksFor name entry
-asked held name left selections _ (not_held none) = (missing name, [], not_held none, refl)
-asked held name left selections _ (too_long bytes is long) = (stop name FileTooLong, [], too_long bytes is long, refl)
-asked held name left selections _ (read {entries = rest} bytes is short walk) = (fetched name (length bytes), rest, read bytes is short walk, refl)
+-- a walk over a file that begins by asking for it
+record Asking (held : Held) (name : Text) (left : ℕ) (selections : Selections) : Type 0 where
+  pub entry : Entry
+  pub back : List Entry
+  pub walk : WalksFile held (suc left) selections name (entry ∷ back)
+  pub asks : AsksFor name entry
+
+-- each walk over a file begins by asking for it
+walk_asks : (held : Held) (name : Text) (left : ℕ) (selections : Selections) (entries : List Entry) → WalksFile held (suc left) selections name entries →
+    Asking held name left selections
+walk_asks held name left selections _ (not_held none) = record { entry = missing name; back = []; walk = not_held none; asks = refl }
+walk_asks held name left selections _ (too_long bytes is long) =
+    record { entry = stop name FileTooLong; back = []; walk = too_long bytes is long; asks = refl }
+walk_asks held name left selections _ (read {entries = rest} bytes is short walk) =
+    record { entry = fetched name (length bytes); back = rest; walk = read bytes is short walk; asks = refl }
 
 -- the walk over a file that is too long is refused
 long_refused : (held : Held) (name : Text) (before : Walked) (left : ℕ) (selections : Selections) (found : Option Text) → finite.get held name ≡ found →
@@ -47,8 +56,8 @@ fault_refused_at : (held : Held) (name : Text) (before : Walked) → IsRefusedAt
 fault_refused_at held name before = record {
   anywhere = λ left selections.
       let some = some_walk held (suc left) selections name in
-      let (entry, back, walk, asks) = asked held name left selections some.entries some.walk in
-      ([], entry, back, walk, asks, refl);
+      let asking = walk_asks held name left selections some.entries some.walk in
+      ([], asking.entry, asking.back, asking.walk, asking.asks, refl);
 }
 
 -- a file that is too long
