@@ -67,12 +67,12 @@ long_refused_at held name before long = record {
 }
 
 -- the test of too many bytes is true where they are too many
-over : (before : Walked) (n : ℕ) → MOST_PROBLEM_BYTES < before.bytes + n → nat_lt MOST_PROBLEM_BYTES (before.bytes + n) ≡ true
-over before n many = grind (arith, nat_tests)
+many_counted : (before : Walked) (n : ℕ) → MOST_PROBLEM_BYTES < before.bytes + n → nat_lt MOST_PROBLEM_BYTES (before.bytes + n) ≡ true
+many_counted before n many = grind (arith, nat_tests)
 
 -- the test of too many bytes is false where they are not too many
-within : (before : Walked) (n : ℕ) → before.bytes + n ≤ MOST_PROBLEM_BYTES → nat_lt MOST_PROBLEM_BYTES (before.bytes + n) ≡ false
-within before n few = grind (arith, nat_tests)
+few_counted : (before : Walked) (n : ℕ) → before.bytes + n ≤ MOST_PROBLEM_BYTES → nat_lt MOST_PROBLEM_BYTES (before.bytes + n) ≡ false
+few_counted before n few = grind (arith, nat_tests)
 
 -- the bytes are too many with those that were fetched before
 count_refused_at : (held : Held) (name bytes : Text) (before : Walked) → finite.get held name ≡ Some bytes → length bytes ≤ MOST_FILE_BYTES → MOST_PROBLEM_BYTES < before.bytes + length bytes →
@@ -80,7 +80,7 @@ count_refused_at : (held : Held) (name bytes : Text) (before : Walked) → finit
 count_refused_at held name bytes before is short many = record {
   anywhere = λ left selections.
       let some = some_walk_of_bytes held left selections name bytes in
-      (fetched name (length bytes) ∷ some.entries, read bytes is short some.walk, rw (over before (length bytes) many));
+      (fetched name (length bytes) ∷ some.entries, read bytes is short some.walk, rw (many_counted before (length bytes) many));
 }
 
 -- the bytes are a text of no items
@@ -90,14 +90,14 @@ text_refused_at held name bytes before (Lex refusal) is short few fault = record
   anywhere = λ left selections. (
     fetched name (length bytes) ∷ stop name (Lex refusal) ∷ [],
     read bytes is short (no_tokens refusal fault),
-    rw (within before (length bytes) few),
+    rw (few_counted before (length bytes) few),
   );
 }
 text_refused_at held name bytes before (Syntax refusal) is short few (ts, tokens, fault) = record {
   anywhere = λ left selections. (
     fetched name (length bytes) ∷ stop name (Syntax refusal) ∷ [],
     read bytes is short (no_items ts refusal tokens fault),
-    rw (within before (length bytes) few),
+    rw (few_counted before (length bytes) few),
   );
 }
 text_refused_at held name bytes before Memory is short few h = record { anywhere = λ left selections. refl }
@@ -128,7 +128,7 @@ opens_at held name bytes items before after is short few text counted problem = 
   short = short;
   read = text;
   passed = record {
-    undecided = rw (within before (length bytes) few);
+    undecided = rw (few_counted before (length bytes) few);
     bytes = let sum = counted in omega arith;
     problem = problem ∙ sym (append-nil before.problem);
   };
