@@ -19,10 +19,10 @@ use Rattle.include_flat.proofs.Told.{where_told}
 use Rattle.include_flat.proofs.Passing.{refuses_so}
 
 -- selections that are alike stay so with one more
-further : (only : Option (List Text)) (selections others : Selections) → AreAlike selections others →
+alike_further : (only : Option (List Text)) (selections others : Selections) → AreAlike selections others →
     AreAlike (with_selection only selections) (with_selection only others)
-further None selections others h = h
-further (Some names) selections others h = record { alike = λ name. ap (λ b. list_any (bytes_eq name) names && b) (h.alike name) }
+alike_further None selections others h = h
+alike_further (Some names) selections others h = record { alike = λ name. ap (λ b. list_any (bytes_eq name) names && b) (h.alike name) }
 
 -- selections that are alike keep a formula, or leave it out, alike
 entries_alike : (file : Text) (selections others : Selections) (fof : Fof) → AreAlike selections others →
@@ -57,7 +57,7 @@ module _ (held : Held) where
         (split ∙ ap (λ (front : List Entry). front ++ rest) (entries_alike file selections others fof alike))
     items_alike left selections others file _ entries alike (inclusion {items = items} name only front rest inner walk split) =
         inclusion name only front rest
-        (walk_alike left (with_selection only selections) (with_selection only others) name front (further only selections others alike) inner)
+        (walk_alike left (with_selection only selections) (with_selection only others) name front (alike_further only selections others alike) inner)
         (items_alike left selections others file items rest alike walk) split
 
 module _ (left : ℕ) (selections others : Selections) (file : Text) (files later : Known) (before : Walked) (alike : AreAlike selections others) where

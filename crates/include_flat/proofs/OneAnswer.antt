@@ -51,21 +51,13 @@ module _ (held : Held) (name : Text) where
 
   -- a refusal comes from outside, or decides
   refused_for : (file : Text) (why : FlatWhy) → IsFlatRefusal held name file why → IsOutside why ⊎ IsFlatRefused held name file why
-  -- a refusal comes from outside, or decides
   refused_for file (Lex refusal) h = inr h
-  -- a refusal comes from outside, or decides
   refused_for file (Syntax refusal) h = inr h
-  -- a refusal comes from outside, or decides
   refused_for file FileFault h = inl (inl refl)
-  -- a refusal comes from outside, or decides
   refused_for file FileTooLong h = inr h
-  -- a refusal comes from outside, or decides
   refused_for file AllTooLong h = inr h
-  -- a refusal comes from outside, or decides
   refused_for file IncludeDepth h = inr h
-  -- a refusal comes from outside, or decides
   refused_for file TooManyFormulas h = inr h
-  -- a refusal comes from outside, or decides
   refused_for file Memory h = inl (inr refl)
 
   -- where the formulas are told, a refusal comes from outside

@@ -29,12 +29,21 @@ use Rattle.include_flat.specs.Progress.{Refuses, IsRefusedAt, Refused, OpensTo, 
 use Rattle.include_flat.proofs.Told.{where_told, wherever_told}
 use Rattle.include_flat.proofs.SomeWalk.{some_walk, some_walk_of_bytes}
 
--- the walk over a file begins by asking for it
-asked : (held : Held) (name : Text) (left : ℕ) (selections : Selections) (entries : List Entry) → WalksFile held (suc left) selections name entries →
-    (entry : Entry) × (back : List Entry) × WalksFile held (suc left) selections name (entry ∷ back) × AsksFor name entry
-asked held name left selections _ (not_held none) = (missing name, [], not_held none, refl)
-asked held name left selections _ (too_long bytes is long) = (stop name FileTooLong, [], too_long bytes is long, refl)
-asked held name left selections _ (read {entries = rest} bytes is short walk) = (fetched name (length bytes), rest, read bytes is short walk, refl)
+-- a walk over a file that begins by asking for it
+record Asking (held : Held) (name : Text) (left : ℕ) (selections : Selections) : Type 0 where
+  pub entry : Entry
+  pub back : List Entry
+  pub walk : WalksFile held (suc left) selections name (entry ∷ back)
+  pub asks : AsksFor name entry
+
+-- each walk over a file begins by asking for it
+walk_asks : (held : Held) (name : Text) (left : ℕ) (selections : Selections) (entries : List Entry) → WalksFile held (suc left) selections name entries →
+    Asking held name left selections
+walk_asks held name left selections _ (not_held none) = record { entry = missing name; back = []; walk = not_held none; asks = refl }
+walk_asks held name left selections _ (too_long bytes is long) =
+    record { entry = stop name FileTooLong; back = []; walk = too_long bytes is long; asks = refl }
+walk_asks held name left selections _ (read {entries = rest} bytes is short walk) =
+    record { entry = fetched name (length bytes); back = rest; walk = read bytes is short walk; asks = refl }
 
 -- the walk over a file that is too long is refused
 long_refused : (held : Held) (name : Text) (before : Walked) (left : ℕ) (selections : Selections) (found : Option Text) → finite.get held name ≡ found →
@@ -47,8 +56,8 @@ fault_refused_at : (held : Held) (name : Text) (before : Walked) → IsRefusedAt
 fault_refused_at held name before = record {
   anywhere = λ left selections.
       let some = some_walk held (suc left) selections name in
-      let (entry, back, walk, asks) = asked held name left selections some.entries some.walk in
-      ([], entry, back, walk, asks, refl);
+      let asking = walk_asks held name left selections some.entries some.walk in
+      ([], asking.entry, asking.back, asking.walk, asking.asks, refl);
 }
 
 -- a file that is too long
@@ -58,12 +67,12 @@ long_refused_at held name before long = record {
 }
 
 -- the test of too many bytes is true where they are too many
-over : (before : Walked) (n : ℕ) → MOST_PROBLEM_BYTES < before.bytes + n → nat_lt MOST_PROBLEM_BYTES (before.bytes + n) ≡ true
-over before n many = grind (arith, nat_tests)
+many_counted : (before : Walked) (n : ℕ) → MOST_PROBLEM_BYTES < before.bytes + n → nat_lt MOST_PROBLEM_BYTES (before.bytes + n) ≡ true
+many_counted before n many = grind (arith, nat_tests)
 
 -- the test of too many bytes is false where they are not too many
-within : (before : Walked) (n : ℕ) → before.bytes + n ≤ MOST_PROBLEM_BYTES → nat_lt MOST_PROBLEM_BYTES (before.bytes + n) ≡ false
-within before n few = grind (arith, nat_tests)
+few_counted : (before : Walked) (n : ℕ) → before.bytes + n ≤ MOST_PROBLEM_BYTES → nat_lt MOST_PROBLEM_BYTES (before.bytes + n) ≡ false
+few_counted before n few = grind (arith, nat_tests)
 
 -- the bytes are too many with those that were fetched before
 count_refused_at : (held : Held) (name bytes : Text) (before : Walked) → finite.get held name ≡ Some bytes → length bytes ≤ MOST_FILE_BYTES → MOST_PROBLEM_BYTES < before.bytes + length bytes →
@@ -71,7 +80,7 @@ count_refused_at : (held : Held) (name bytes : Text) (before : Walked) → finit
 count_refused_at held name bytes before is short many = record {
   anywhere = λ left selections.
       let some = some_walk_of_bytes held left selections name bytes in
-      (fetched name (length bytes) ∷ some.entries, read bytes is short some.walk, rw (over before (length bytes) many));
+      (fetched name (length bytes) ∷ some.entries, read bytes is short some.walk, rw (many_counted before (length bytes) many));
 }
 
 -- the bytes are a text of no items
@@ -81,14 +90,14 @@ text_refused_at held name bytes before (Lex refusal) is short few fault = record
   anywhere = λ left selections. (
     fetched name (length bytes) ∷ stop name (Lex refusal) ∷ [],
     read bytes is short (no_tokens refusal fault),
-    rw (within before (length bytes) few),
+    rw (few_counted before (length bytes) few),
   );
 }
 text_refused_at held name bytes before (Syntax refusal) is short few (ts, tokens, fault) = record {
   anywhere = λ left selections. (
     fetched name (length bytes) ∷ stop name (Syntax refusal) ∷ [],
     read bytes is short (no_items ts refusal tokens fault),
-    rw (within before (length bytes) few),
+    rw (few_counted before (length bytes) few),
   );
 }
 text_refused_at held name bytes before Memory is short few h = record { anywhere = λ left selections. refl }
@@ -119,7 +128,7 @@ opens_at held name bytes items before after is short few text counted problem = 
   short = short;
   read = text;
   passed = record {
-    undecided = rw (within before (length bytes) few);
+    undecided = rw (few_counted before (length bytes) few);
     bytes = let sum = counted in omega arith;
     problem = problem ∙ sym (append-nil before.problem);
   };

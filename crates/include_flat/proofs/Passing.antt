@@ -112,9 +112,9 @@ depth_refused_at held left selections name before e =
 -- the items of a file are walked behind its fetch
 module _ (held : Held) (selections : Selections) (name : Text) (items : List Item) (before middle : Walked) (opens : OpensTo held name items before middle) where
   -- a walk over the items of a file is one over the file
-  opened : (left : ℕ) (rest : List Entry) → WalksItems held left selections name items rest →
+  items_walk_file : (left : ℕ) (rest : List Entry) → WalksItems held left selections name items rest →
       WalksFile held (suc left) selections name (fetched name (length opens.bytes) ∷ [] ++ rest)
-  opened left rest walk = let (ts, tokens, text) = opens.read in
+  items_walk_file left rest walk = let (ts, tokens, text) = opens.read in
       read opens.bytes opens.held_is opens.short (with_items ts items tokens text walk)
 
   -- a file is passed where its items are
@@ -122,7 +122,7 @@ module _ (held : Held) (selections : Selections) (name : Text) (items : List Ite
       PassesPart (over_file (suc left) selections name held) before after
   file_passes_at left after p = record {
     entries = fetched name (length opens.bytes) ∷ [] ++ p.entries;
-    walk = opened left p.entries p.walk;
+    walk = items_walk_file left p.entries p.walk;
     passed = passes_on before middle after (fetched name (length opens.bytes) ∷ []) p.entries opens.passed p.passed;
   }
 
@@ -131,7 +131,7 @@ module _ (held : Held) (selections : Selections) (name : Text) (items : List Ite
       Refuses (over_file (suc left) selections name held) before file why
   file_refuses_at left file why h =
       refuses_amid _ (over_items left selections name items held) before middle (fetched name (length opens.bytes) ∷ []) [] opens.passed
-      (λ part walk. opened left (part ++ []) (subst (over_items left selections name items held) (sym (append-nil part)) walk)) file why h
+      (λ part walk. items_walk_file left (part ++ []) (subst (over_items left selections name items held) (sym (append-nil part)) walk)) file why h
 
 -- what a refusal leaves of a file it leaves of the file that it names
 leaves_none : (files later : Known) (name : Text) (why : FlatWhy) → Leaves files later name why → Leaves files later (refused_file name why) why

@@ -199,11 +199,17 @@ module _ (problem : List GroundFormula) (goal : GroundAtom) (one_goal : goals_of
       let stand = (subst (AllByRecursion (λ a. Stands context (atom_at (parameters (task_of problem) ++ []) a))) atoms answer.stand).0 in
       subst (Stands context) (ground_stays (parameters (task_of problem) ++ []) (tables_of problem) goal) stand
 
+  -- applications for which the steps stand, and that lead from the context to the goal
+  record Applications (ss : List CitedFact) (context : Context) : Type 0 where
+    pub mps : List Mp
+    pub applied : StepsStand (axioms_of problem) ss mps
+    pub proves : StepsThen (task_of problem) mps (Closes (task_of problem) (As 1 [])) context
+    pub count : length mps ≡ length ss
+
   -- steps that the check accepts stand for applications that lead to the goal
   steps_accepted : (ss : List CitedFact) (stands : Bool) (context : Context) → (stands ≡ true → Stands context (atom_of (tables_of problem) goal))
-      → accepts problem goal stands ss ≡ true
-      → (mps : List Mp) × StepsStand (axioms_of problem) ss mps × StepsThen (task_of problem) mps (Closes (task_of problem) (As 1 [])) context × (length mps ≡ length ss)
-  steps_accepted [] stands context given e = ([], refl, closes context (given e), refl)
+      → accepts problem goal stands ss ≡ true → Applications ss context
+  steps_accepted [] stands context given e = record { mps = []; applied = refl; proves = closes context (given e); count = refl }
   steps_accepted (s ∷ ss) stands context given e =
       let k = and_both (shows (cited_atom s.cite problem) s.atom) (accepts problem goal (stands || atom_eq s.atom goal) ss) e in
       let b = shown (cited_atom s.cite problem) s.atom k.0 in
@@ -214,23 +220,23 @@ module _ (problem : List GroundFormula) (goal : GroundAtom) (one_goal : goals_of
         | inr now ↦ after_axiom (tables_of problem) f.formula.atom context [] (atom_of (tables_of problem) goal)
             (ap (atom_of (tables_of problem)) (sym (f.atom ∙ b.2 ∙ atoms_told s.atom goal now)))
       ]) k.1 in
-      let count = r.3 in (
-        record { form = f.at; args = [] } ∷ r.0,
-        (
+      record {
+        mps = record { form = f.at; args = [] } ∷ r.mps;
+        applied = (
           record { form = f.at; args = [] },
-          r.0,
+          r.mps,
           refl,
           record { cited = f.formula; axiom_is = f.axiom_is; name = f.name; first = f.first; no_args = refl; shown = f.atom ∙ b.2 },
-          r.1,
-        ),
-        (
+          r.applied,
+        );
+        proves = (
           form_of (tables_of problem) f.formula.atom,
           form_at f.at f.formula f.axiom_is,
           record { args_known = record { length_is = refl; known = tt }; premises = tt },
-          r.2,
-        ),
-        ap suc count,
-      )
+          r.proves,
+        );
+        count = ap suc r.count;
+      }
 
   -- there is one form at a number
   same_form : (at : ℕ) (f g : Form) → slice_get (task_of problem).forms at ≡ Some f → slice_get (task_of problem).forms at ≡ Some g → f ≡ g
@@ -282,9 +288,9 @@ module _ (problem : List GroundFormula) (goal : GroundAtom) (one_goal : goals_of
   pub accepted : (ss : List CitedFact) → accepts problem goal false ss ≡ true → (body : Body) × IsAccepted problem ss body × (size body ≡ length ss + 1)
   accepted ss e =
       let k = steps_accepted ss false (start_context (task_of problem)) (λ never. absurd (cc)) e in (
-        record { steps = k.0; end = As 1 [] },
-        record { stands = record { applied = k.1; ended = refl }; proves = k.2 },
-        ap (λ n. n + 1) k.3,
+        record { steps = k.mps; end = As 1 [] },
+        record { stands = record { applied = k.applied; ended = refl }; proves = k.proves },
+        ap (λ n. n + 1) k.count,
       )
 
   -- and what stands for a proof is accepted

@@ -17,9 +17,6 @@ fronts [] x b y e = inl (record { more = b; long = refl; short = e })
 fronts (c ∷ a) x [] y e = inr (record { more = c ∷ a; long = refl; short = sym e })
 fronts (c ∷ a) x (d ∷ b) y e = go (fronts a x b y (cc))
   where
-    same : c ≡ d
-    same = cc
-
     go : GoesOn a x b y ⊎ GoesOn b y a x → GoesOn (c ∷ a) x (d ∷ b) y ⊎ GoesOn (d ∷ b) y (c ∷ a) x
     go (inl g) = inl (record { more = g.more; long = let l = g.long in cc; short = g.short })
     go (inr g) = inr (record { more = g.more; long = let l = g.long in cc; short = g.short })

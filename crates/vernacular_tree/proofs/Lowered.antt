@@ -166,8 +166,8 @@ module _ (task : Task) where
     )
 
   -- the barren step itself
-  dropped : (context : Context) (form : Form) (args : List ℕ) → Barren context form args → Lowers (length context.lines) (after_mp context form args) context
-  dropped context form args b =
+  barren_lowers : (context : Context) (form : Form) (args : List ℕ) → Barren context form args → Lowers (length context.lines) (after_mp context form args) context
+  barren_lowers context form args b =
       let none : counted context.elements form.existentials ≡ [] = rw b.none_new in
       let at : args ++ counted context.elements form.existentials ≡ args = rw none (append-nil args) in
       record {
@@ -194,7 +194,7 @@ module _ (task : Task) where
       let rest = subst (λ (f : Form). StepsThen task steps (Closes task end) (after_mp context f step.args)) same h.3 in
       let number : length context.lines ≡ gone = omega arith in
       steps_lowered gone steps (Closes task end) (Closes task (lowered gone end)) (end_lowered end gone) (after_mp context b.0 step.args) context
-      (subst (λ (k : ℕ). Lowers k (after_mp context b.0 step.args) context) number (dropped context b.0 step.args b.2)) rest
+      (subst (λ (k : ℕ). Lowers k (after_mp context b.0 step.args) context) number (barren_lowers context b.0 step.args b.2)) rest
   steps_without (suc j) gone (step ∷ steps) end context at b h =
       let same : h.0 ≡ b.0 = same_form h.0 b.0 step.form h.1 b.1 in
       let barren = subst (λ (f : Form). StepIsBarren task j steps (after_mp context f step.args)) (sym same) b.2 in (
