@@ -92,7 +92,8 @@ fn read_second<F: Files>(alloc: Global, files: &mut F, name: &[u8]) -> Result<By
         (F.known files.old) name.now bytes MOST_FILE_BYTES) }
     ensures halts { (words : Lst Text) (before : Known) (problem : Text) (formulas : Lst Ground)
         → Grows before (F.known files.old) → NamesBoth words problem name.now
-        → ReadsGround before problem formulas → IfErr result (Halts words before (F.known files.new)) }
+        → ReadsGround before problem formulas
+        → IfErr result (Halts words before (F.known files.new)) }
     ensures grows { Grows (F.known files.old) (F.known files.new) }
 {
     match fetch_whole(alloc, files, name) {

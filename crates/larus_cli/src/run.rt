@@ -78,10 +78,12 @@ pub fn run<W: World, F: Files, O: Sink, E: Sink>(
     out: &mut O,
     errs: &mut E,
 ) -> u8
-    // An accepted proof: the conjecture is true in each structure in which the problem's axioms are.
+    // An accepted proof: the conjecture is true in each structure in which the axioms of the
+    // problem are.
     ensures sound { (k : List ℕ) (problem proof : Text)
         → words.now ≡ codes "check" ∷ problem ∷ proof ∷ [] → result ≡ 0
-        → ProblemFollows (structure (W.element k) (W.holds k) (W.place k)) (F.known files.old) problem }
+        → ProblemFollows (structure (W.element k) (W.holds k) (W.place k))
+        (F.known files.old) problem }
     // A converted problem: what is printed reads back as the formulas of the problem, so it is true
     // in the same structures.
     ensures printed { (problem : Text)

@@ -85,7 +85,8 @@ fn each_ground(alloc: Global, fofs: &[Fof]) -> Result<List<GroundFormula>, NotGr
 }
 
 fn is_narrow(formulas: &[GroundFormula]) -> bool
-    ensures { result ≡ list_all (λ (g : Ground). nat_le (length g.atom.args) MOST_ARGUMENTS) formulas.now }
+    ensures { result
+        ≡ list_all (λ (g : Ground). nat_le (length g.atom.args) MOST_ARGUMENTS) formulas.now }
 {
     formulas.iter().all(|formula| formula.atom.args.len() <= MOST_ARGUMENTS as usize)
 }

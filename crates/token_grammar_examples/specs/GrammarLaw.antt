@@ -14,7 +14,8 @@ part_law (Taken taker) = refl
 part_law (Row Whole) = refl
 part_law (Row _) = refl
 
-token_law : (p : Symbol.Symbol) (t : Mark.Mark) → IsTrue (token_test expressions expression_plan p t)
+token_law : (p : Symbol.Symbol) (t : Mark.Mark) →
+    IsTrue (token_test expressions expression_plan p t)
 token_law (Taken taker) t = refl
 token_law (Row Whole) mark.Plus = refl
 token_law (Row Rest) mark.Plus = refl

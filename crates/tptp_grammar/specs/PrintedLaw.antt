@@ -101,7 +101,8 @@ abbrev ◌&◌ : {A B : Type 0} → A → B → A × B
 a & b = (a, b)
 
 -- in brackets what each row is made of that an alternative stands for
-rows_made : (p : ItemPart) → AlternativesAreMade printed_items printed_rows (printed_rows p) (alternatives p)
+rows_made : (p : ItemPart) →
+    AlternativesAreMade printed_items printed_rows (printed_rows p) (alternatives p)
 rows_made Items = (inl (to 0 done) & tt) & (inl (to 1 kept) & tt) & tt
 rows_made Item = (inl (to 0 kept) & inl (to 1 kept) & inl (to 2 kept) & tt) &
     (inl (to 3 kept) & inl (to 4 kept) & tt) & tt
@@ -165,8 +166,10 @@ made_for (one p) = tt
 made_for items = (inl (to 0 done) & tt) & (inl (to 1 kept) & tt) & tt
 made_for item =
     (inl (to 0 (keep (to 0 (keep (keep (keep (keep (keep (keep (to 0 kept)))))))))) & tt) &
-    (inl (to 0 (keep (to 0 (keep (keep (keep (keep (keep (keep (to 1 (keep (keep (to 0 kept))))))))))))) & tt) &
-    (inl (to 0 (keep (to 0 (keep (keep (keep (keep (keep (keep (to 1 (keep (keep (to 1 kept))))))))))))) & tt) &
+    (inl (to 0 (keep (to 0 (keep (keep (keep (keep (keep (keep (to 1 (keep (keep
+    (to 0 kept))))))))))))) & tt) &
+    (inl (to 0 (keep (to 0 (keep (keep (keep (keep (keep (keep (to 1 (keep (keep
+    (to 1 kept))))))))))))) & tt) &
     (inl (to 1 (keep (to 0 (keep (keep (to 0 kept)))))) & tt) &
     (inl (to 1 (keep (to 0 (keep (keep (to 1 kept)))))) & tt) &
     tt

@@ -123,8 +123,8 @@ impl<'t, 'a> Cursor<'t, 'a> {
     }
 
     /// One or more values with a comma between each two, and a token of the kind `close`, with what
-    /// is left behind it. `NoText` where the tokens do not begin with such a list, `Memory` for want
-    /// of memory.
+    /// is left behind it. `NoText` where the tokens do not begin with such a list, `Memory` for
+    /// want of memory.
     pub fn listed<R: Reads>(
         &self,
         alloc: Global,
