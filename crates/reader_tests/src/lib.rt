@@ -3,6 +3,8 @@
 #![tactic(auto)]
 
 #[cfg(test)]
+mod forms;
+#[cfg(test)]
 mod ground;
 #[cfg(test)]
 mod inclusions;
@@ -10,5 +12,7 @@ mod inclusions;
 mod items;
 #[cfg(test)]
 mod printing;
+#[cfg(test)]
+mod scripts;
 #[cfg(test)]
 mod trees;

@@ -1,0 +1,12 @@
+use Rattle.std.proofs.Common.{◌≡◌, ◌++◌, map, length}
+use Rattle.std.specs.Vec.Iter.{into_iter_items, into_iter_len}
+use Rattle.coherent_form.specs.Reading.{alternative_joined}
+use Rattle.coherent_form.proofs.alternatives.each_followed.Given as goal
+
+-- the alternatives so far are followed by the other one
+abbrev pub invariant-loop-first : goal.invariant-loop-first
+invariant-loop-first l = record {
+  rest : l.yielded ++ into_iter_items l.first-iterator ≡ l.fn.firsts;
+  len : into_iter_len l.first-iterator ≡ length (into_iter_items l.first-iterator);
+  so_far : l.all ≡ map (λ first. alternative_joined l.scope first l.second) l.yielded;
+}

@@ -1,0 +1,15 @@
+pub mod Fixed
+pub mod Marks
+pub mod Grammar
+pub mod GrammarLaw
+pub mod Values
+pub mod Stepping
+pub mod Watching
+pub mod Effects
+pub mod EffectsLaw
+pub mod Sizes
+pub mod Proper
+pub mod Scripts
+pub mod Told
+pub mod Canonical
+pub mod Named

@@ -1,0 +1,37 @@
+//! Laws over all bytes.
+
+ghost use Rattle.std.specs.Prelude.{◌≡◌, ◌⊎◌};
+ghost use Rattle.text_core.specs.Names.{Text};
+ghost use Rattle.proof_text.specs.declared.refusal.ScriptRefusal.{ScriptRefusal};
+ghost use Rattle.proof_text.specs.Values.{Written};
+ghost use Rattle.proof_text.specs.Proper.{IsProper};
+ghost use Rattle.proof_text.specs.Scripts.{IsScriptOf, ProofFault};
+
+/// Bytes spell one script at most.
+pub fn scripts_are_one()
+    ensures { (bytes : Text) (a b : Written) → IsScriptOf bytes a → IsScriptOf bytes b → a ≡ b }
+{}
+
+/// Bytes have one refusal at most.
+pub fn refusals_are_one()
+    ensures { (bytes : Text) (a b : ScriptRefusal) →
+        ProofFault bytes a → ProofFault bytes b → a ≡ b }
+{}
+
+/// Bytes that spell a script are not refused.
+pub fn never_script_and_refusal()
+    ensures { (bytes : Text) (script : Written) (refusal : ScriptRefusal) →
+        IsScriptOf bytes script → ProofFault bytes refusal → ⊥ }
+{}
+
+/// Bytes spell a script, or are refused.
+pub fn script_or_refusal()
+    ensures { (bytes : Text) →
+        ((script : Written) × IsScriptOf bytes script) ⊎
+        ((refusal : ScriptRefusal) × ProofFault bytes refusal) }
+{}
+
+/// A script that bytes spell has what each script has.
+pub fn scripts_are_proper()
+    ensures { (bytes : Text) (script : Written) → IsScriptOf bytes script → IsProper script }
+{}
