@@ -1,8 +1,8 @@
 -- The predicates of a formula that is read have no more arguments than an atom of a form may have.
-use Rattle.std.proofs.Common.{◌≡◌, ℕ, ◌+◌, ◌≤◌, max, Bool, true, false, cond, if◌then◌else◌, List, [], ◌∷◌, ◌++◌, length, refl, sym, subst, arith}
+use Rattle.std.proofs.Common.{◌≡◌, ℕ, ◌+◌, ◌≤◌, Bool, true, false, cond, if◌then◌else◌, List, [], ◌∷◌, ◌++◌, length, sym, subst, arith}
 use Rattle.std.specs.List.{AllByRecursion, list_any}
 use Rattle.text_core.specs.Names.{Text}
-use Rattle.text_core.specs.Numbered.{Symbol, Tables}
+use Rattle.text_core.specs.Numbered.{Tables}
 use Rattle.text_core.specs.declared.limits.TheConstants.{MOST_ARGUMENTS}
 use Rattle.text_core.proofs.Laws.{each_append}
 use Rattle.signature.specs.Numbers.{is_symbol, with_symbol}
@@ -14,7 +14,7 @@ use Rattle.logic_core.specs.declared.formula.Formula.{Formula, True, False, Pred
 use Rattle.logic_core.specs.declared.form.Form.{Form}
 use Rattle.coherent_form.specs.Counts.{argument_count, conjunction_counts, conjunctions_counts, premise_counts, choices_counts, offers_counts, conclusion_counts, conclusions_counts, rule_counts, rules_counts}
 use Rattle.coherent_form.specs.Offending.{nodes, is_atom, are_plain, conjunction_offenders, conjunctions_offenders, premise_offenders, premises_offenders, conclusion_offenders, conclusions_offenders, rule_offenders, rules_offenders}
-use Rattle.coherent_form.specs.Reading.{with_term, with_terms, with_predicate, with_names, with_names_of, forms_of}
+use Rattle.coherent_form.specs.Reading.{with_term, with_terms, with_predicate, with_names, with_names_of}
 use Rattle.coherent_form.specs.Wide.{AreNarrow, Reads}
 use Rattle.coherent_form.specs.declared.counts.Counts.{Counts}
 use Rattle.coherent_form.proofs.Counting.{narrow_small}

@@ -1,5 +1,5 @@
 -- The counts of a formula are those of its reading: the forms are as many as is told, and the greatest numbers are reached.
-use Rattle.std.proofs.Common.{◌≡◌, ℕ, zero, suc, ◌+◌, ◌*◌, ◌≤◌, ◌<◌, ◌⊎◌, inl, inr, max, Bool, true, false, if◌then◌else◌, nat_le, List, [], ◌∷◌, ◌++◌, map, length, refl, ap, sym, ◌∙◌, subst, arith, length-append}
+use Rattle.std.proofs.Common.{◌≡◌, ℕ, suc, ◌+◌, ◌*◌, ◌≤◌, ◌⊎◌, inl, inr, max, Bool, true, false, if◌then◌else◌, nat_le, List, [], ◌∷◌, ◌++◌, map, length, refl, ap, sym, ◌∙◌, arith, length-append}
 use Rattle.std.proofs.Math.Nat.{suc-mul}
 use Rattle.std.proofs.lemmas.List.{length-map}
 use Rattle.std.proofs.lemmas.List.Sums.{sum_by-cons, sum_by-append}
@@ -8,17 +8,16 @@ use Rattle.std.specs.List.{AllByRecursion, flat_map, sum_by}
 use Rattle.text_core.specs.Names.{Text}
 use Rattle.text_core.specs.Numbered.{Tables}
 use Rattle.text_core.specs.Lists.{SomeOf}
-use Rattle.text_core.proofs.Laws.{each_map, each_append, each_both, some_front, some_back, some_with}
+use Rattle.text_core.proofs.Laws.{each_map, each_append, some_front, some_back, some_with}
 use Rattle.logic_core.specs.Allowed.{HasOne, IsBoundIn, EachIsBoundIn, TwoOrMore}
 use Rattle.logic_core.specs.declared.formula.Op.TheVariants.{Implies, Implied, Iff, Xor, Nor, Nand}
 use Rattle.logic_core.specs.declared.formula.Formula.{Formula, True, False, Pred, Equal, Not', And', Or', Binary', ForAll', Exists', Row_of-Formula, end_of-Formula, more_of-Formula}
-use Rattle.logic_core.specs.declared.form.Slot.{Slot}
 use Rattle.logic_core.specs.declared.form.Atom.{Atom}
 use Rattle.logic_core.specs.declared.form.Form.{Form}
 use Rattle.text_core.specs.declared.limits.TheConstants.{MOST_ARGUMENTS}
 use Rattle.coherent_form.specs.Counts.{AreSmall, product, sum, bound, no_form, no_atom, one_atom, argument_count, conjunction_counts, conjunctions_counts, premise_counts, choices_counts, offers_counts, conclusion_counts, conclusions_counts, rule_counts, rules_counts}
 use Rattle.coherent_form.specs.Offending.{are_plain}
-use Rattle.coherent_form.specs.Reading.{slot_moved, atom_moved, alternative_joined, alternatives_joined, alternative_bound, head_joined, head_bound, form_of_head, form_bound, form_guarded, forms_guarded, slot_of, terms_of, atom_of, atoms_of, atoms_of_each, alternatives, choices, offers, head_of, head_of_each, forms_of, forms_of_each}
+use Rattle.coherent_form.specs.Reading.{slot_moved, atom_moved, alternative_joined, alternatives_joined, alternative_bound, form_of_head, form_bound, form_guarded, forms_guarded, slot_of, terms_of, atom_of, atoms_of, atoms_of_each, alternatives, choices, offers, head_of, head_of_each, forms_of, forms_of_each}
 use Rattle.coherent_form.specs.Wide.{AtomIsNarrow, FormIsNarrow, AreNarrow}
 use Rattle.coherent_form.specs.declared.alternative.Alternative.{Alternative}
 use Rattle.coherent_form.specs.declared.alternative.Head.{Head}

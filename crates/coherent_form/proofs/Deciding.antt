@@ -3,15 +3,13 @@ use Rattle.std.proofs.Common.{◌≡◌, ℕ, ◌≤◌, ◌<◌, min, inl, inr,
 use Rattle.std.proofs.lemmas.Bool.Decides.{nat_tests}
 use Rattle.std.specs.List.{AllByRecursion}
 use Rattle.text_core.specs.Lists.{IsAmong}
-use Rattle.text_core.specs.Numbered.{Tables}
 use Rattle.text_core.proofs.Laws.{each_map}
 use Rattle.logic_core.specs.Allowed.{IsBoundIn}
 use Rattle.logic_core.specs.declared.formula.Formula.{Formula}
 use Rattle.coherent_form.specs.Counts.{AreSmall, most, saturated, rule_counts}
 use Rattle.coherent_form.specs.Offending.{IsCoherent, Offends, rule_offenders}
-use Rattle.coherent_form.specs.Reading.{forms_of}
-use Rattle.coherent_form.specs.Surveys.{first_told, first_of, survey, account_of}
-use Rattle.coherent_form.specs.Wide.{AreNarrow, IsReadable, IsWide, told}
+use Rattle.coherent_form.specs.Surveys.{first_told, first_of, account_of}
+use Rattle.coherent_form.specs.Wide.{IsReadable, IsWide, told}
 use Rattle.coherent_form.specs.declared.counts.Counts.{Counts}
 use Rattle.coherent_form.specs.declared.survey.Account.{Account}
 use Rattle.coherent_form.proofs.Counting.{small_narrow, narrow_small}

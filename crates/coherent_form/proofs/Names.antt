@@ -230,7 +230,7 @@ module _ (a b : Tables) (longer : Extends a b) where
 -- after a formula its names are there
 
 -- a symbol passes its own test
-symbol_passes : (p : Text) (n : ℕ) → is_symbol p n (record { name = p; arity = n }) ≡ true
+pub symbol_passes : (p : Text) (n : ℕ) → is_symbol p n (record { name = p; arity = n }) ≡ true
 symbol_passes p n = and_true _ _ ((bytes_decides p p).1 refl) (grind (arith, nat_tests))
 
 -- a predicate is there

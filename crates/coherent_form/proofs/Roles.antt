@@ -1,5 +1,5 @@
 -- What it means for the parts of a formula that none of its nodes offends.
-use Rattle.std.proofs.Common.{◌≡◌, ℕ, ◌+◌, Bool, true, false, ◌&&◌, if◌then◌else◌, List, [], ◌∷◌, ◌++◌, refl, ap}
+use Rattle.std.proofs.Common.{◌≡◌, ℕ, ◌+◌, Bool, true, false, if◌then◌else◌, List, [], ◌∷◌, ◌++◌, refl, ap}
 use Rattle.logic_core.specs.declared.formula.Formula.{Formula, True, False, Pred, Equal, Not', And', Or', Binary', ForAll', Exists', Row_of-Formula, end_of-Formula, more_of-Formula}
 use Rattle.text_core.proofs.Laws.{and_both, and_true}
 use Rattle.coherent_form.specs.Offending.{nodes, is_atom, is_plain, are_plain, placed_at, itself, unless_atom, conjunction_offenders, conjunctions_offenders}

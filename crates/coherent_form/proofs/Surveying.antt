@@ -1,5 +1,5 @@
 -- What is told of a formula follows from what is told of its parts.
-use Rattle.std.proofs.Common.{◌≡◌, ℕ, zero, suc, ◌+◌, ◌*◌, ◌≤◌, ◌<◌, min, max, Bool, true, false, ◌&&◌, if◌then◌else◌, nat_le, List, [], ◌∷◌, ◌++◌, map, length, Option, Some, None, refl, ap, sym, ◌∙◌, subst, arith}
+use Rattle.std.proofs.Common.{◌≡◌, ℕ, zero, suc, ◌+◌, ◌*◌, ◌≤◌, ◌<◌, min, max, Bool, true, false, if◌then◌else◌, nat_le, List, [], ◌∷◌, ◌++◌, length, Option, Some, None, refl, ap, sym, ◌∙◌, arith}
 use Rattle.std.proofs.Math.Nat.{mul_assoc}
 use Rattle.std.proofs.lemmas.Nat.{mul-le}
 use Rattle.std.proofs.lemmas.Bool.Decides.{nat_tests}
@@ -7,19 +7,16 @@ use Rattle.std.proofs.lemmas.List.{append-nil}
 use Rattle.text_core.specs.Names.{Text}
 use Rattle.text_core.proofs.Laws.{not_both}
 use Rattle.logic_core.proofs.Laws.{row_of, Not_opens, And_opens, Or_opens, Binary_opens, ForAll_opens, Exists_opens}
-use mathlib.Core.Former.{arity, list, this}
 use Rattle.logic_core.specs.declared.formula.Op.{Op}
 use Rattle.logic_core.specs.declared.formula.Op.TheVariants.{Implies, Implied, Iff, Xor, Nor, Nand}
 use Rattle.logic_core.specs.declared.formula.Formula.{Formula, True, False, Pred, Equal, Not, And, Or, Binary, ForAll, Exists, Not', And', Or', Binary', ForAll', Exists', end_of-Formula, more_of-Formula}
 use Rattle.logic_core.specs.declared.formula.Formula.TheBlock.{shape-the_row-Formula-0, shape-the_row-Formula-1}
 use Rattle.coherent_form.proofs.Roles.{members_fit, fitting_are_plain}
 use Rattle.coherent_form.specs.Counts.{product, sum, bound, saturated, most, no_form, no_atom, one_atom, argument_count, conjunction_counts, conjunctions_counts, premise_counts, choices_counts, offers_counts, conclusion_counts, conclusions_counts, rule_counts, rules_counts}
-use Rattle.coherent_form.specs.Offending.{nodes, nodes_of, is_atom, is_plain, are_plain, placed_at, itself, unless_atom, conjunction_offenders, conjunctions_offenders, premise_offenders, premises_offenders, conclusion_offenders, conclusions_offenders, rule_offenders, rules_offenders}
+use Rattle.coherent_form.specs.Offending.{nodes, nodes_of, are_plain, placed_at, unless_atom, conjunction_offenders, conjunctions_offenders, premise_offenders, premises_offenders, conclusion_offenders, conclusions_offenders, rule_offenders, rules_offenders}
 use Rattle.coherent_form.specs.Surveys.{first_told, placed_told, first_of, survey, offending, survey_product, survey_sum, survey_placed, survey_bound, account_of, nodes_in, offenders_in, product_in, sum_in, members_of, members_more, arguments_of, negated, negation_account, unless_plain, conjunction_account, disjunction_account, universal_account, existential_account, binary_rule, binary_account}
 use Rattle.coherent_form.specs.declared.counts.Counts.{Counts}
 use Rattle.coherent_form.specs.declared.survey.Survey.{Survey}
-use Rattle.coherent_form.specs.declared.survey.Account.{Account}
-use Rattle.coherent_form.specs.declared.survey.Members.{Members}
 
 -- the first of some nodes
 

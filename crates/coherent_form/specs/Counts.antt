@@ -1,9 +1,10 @@
--- How large the reading of a formula is, added up node by node: how many alternatives or forms there
--- are, and the greatest numbers of variables and atoms of one of them and of arguments of an atom.
-use Rattle.std.specs.Prelude.{ℕ, ◌+◌, ◌*◌, ◌≤◌, min, max, List, length, if◌then◌else◌}
+-- How large the reading of a formula is, added up node by node: how many alternatives or forms
+-- there are, and the greatest numbers of variables and atoms of one of them and of arguments of an
+-- atom.
+use Rattle.std.specs.Prelude.{ℕ, ◌+◌, ◌*◌, ◌≤◌, min, max, length, if◌then◌else◌}
 use Rattle.text_core.specs.declared.limits.TheConstants.{MOST_FORMULA_FORMS, MOST_FORM_VARIABLES, MOST_FORM_ATOMS, MOST_ARGUMENTS}
 use Rattle.logic_core.specs.declared.formula.Op.TheVariants.{Implies, Implied, Iff}
-use Rattle.logic_core.specs.declared.formula.Formula.{Formula, True, False, Pred, Equal, Not', And', Or', Binary', ForAll', Exists', Row_of-Formula, end_of-Formula, more_of-Formula}
+use Rattle.logic_core.specs.declared.formula.Formula.{Formula, Pred, Equal, Not', And', Or', Binary', ForAll', Exists', Row_of-Formula, end_of-Formula, more_of-Formula}
 use Rattle.coherent_form.specs.Offending.{are_plain}
 use Rattle.coherent_form.specs.declared.counts.Counts.{Counts}
 

@@ -1,5 +1,5 @@
 -- The reading of a list of formulas in order, as code has the members of a formula.
-use Rattle.std.specs.Prelude.{ℕ, ◌+◌, Bool, true, ◌&&◌, List, [], ◌∷◌, ◌++◌, length}
+use Rattle.std.specs.Prelude.{Bool, true, ◌&&◌, List, [], ◌∷◌, ◌++◌, length}
 use Rattle.text_core.specs.Names.{Text}
 use Rattle.text_core.specs.Numbered.{Tables}
 use Rattle.logic_core.specs.declared.formula.Formula.{Formula}

@@ -1,6 +1,16 @@
+pub mod BuiltIns
+pub mod Citing
 pub mod Counts
 pub mod Each
+pub mod ElementNames
+pub mod Fitting
+pub mod Gathered
+pub mod Kept
+pub mod Labels
+pub mod NameNumbers
+pub mod Noted
 pub mod Offending
 pub mod Reading
 pub mod Surveys
+pub mod Tasks
 pub mod Wide

@@ -1,7 +1,7 @@
--- Which formulas are coherent: the shape of each node has to fit the roles that its parent gives it.
--- Nodes are numbered in preorder from 0; members and sides go from left to right, and terms are no
--- nodes. Here are, for each role, the nodes of a formula that offend when it has that role, numbered
--- from the formula as node 0.
+-- Which formulas are coherent: the shape of each node has to fit the roles that its parent gives
+-- it. Nodes are numbered in preorder from 0; members and sides go from left to right, and terms are
+-- no nodes. Here are, for each role, the nodes of a formula that offend when it has that role,
+-- numbered from the formula as node 0.
 use Rattle.std.specs.Prelude.{ℕ, ◌+◌, ◌≤◌, ◌≡◌, Bool, true, false, ◌&&◌, if◌then◌else◌, List, [], ◌∷◌, ◌++◌, map}
 use Rattle.std.specs.List.{AllByRecursion}
 use Rattle.text_core.specs.Lists.{IsAmong}
@@ -108,8 +108,8 @@ abbrev mutual
 
 abbrev mutual
   -- as a rule: the part of a universal formula is a rule; of an implication one side is a premise
-  -- and the other a rule, and of an equivalence each side is both; the members of a conjunction that
-  -- is not plain are rules; and any other formula is a conclusion
+  -- and the other a rule, and of an equivalence each side is both; the members of a conjunction
+  -- that is not plain are rules; and any other formula is a conclusion
   pub rule_offenders : Formula → List ℕ
   rule_offenders (ForAll' xs _ (more_of-Formula g _)) = placed_at 1 (rule_offenders g)
   rule_offenders (Binary' Implies _ (more_of-Formula g _) _ (more_of-Formula h _)) =

@@ -3,8 +3,8 @@
 -- is made of conjunctions. For each role there is one function here, by cases on the formula; what
 -- it gives for a shape that does not fit the role is of no account. `Offending` says which shapes
 -- fit, `Wide` what the limits are. Source: the coherent formulas of the 2014 paper "A Vernacular
--- for Coherent Logic"; the reading of disjunctions and existentials in premises, of nested rules and
--- of equivalences is by the laws of first-order logic.
+-- for Coherent Logic"; the reading of disjunctions and existentials in premises, of nested rules
+-- and of equivalences is by the laws of first-order logic.
 use Rattle.std.specs.Prelude.{ℕ, ◌+◌, ◌≡◌, Bool, true, false, if◌then◌else◌, nat_le, List, [], ◌∷◌, ◌++◌, map, length, unwrap_or}
 use Rattle.std.specs.List.{flat_map}
 use Rattle.text_core.specs.Names.{Text}
@@ -23,8 +23,8 @@ use Rattle.coherent_form.specs.Offending.{are_plain}
 use Rattle.coherent_form.specs.declared.alternative.Alternative.{Alternative}
 use Rattle.coherent_form.specs.declared.alternative.Head.{Head}
 
--- Symbols and constants are numbered by tables, in order of first occurrence in preorder, a predicate
--- before its arguments.
+-- Symbols and constants are numbered by tables, in order of first occurrence in preorder, a
+-- predicate before its arguments.
 
 -- the tables with a term's constant
 abbrev pub with_term : Tables → Term → Tables
@@ -91,8 +91,8 @@ atom_moved from by atom = record {
   args = map (slot_moved from by) atom.args;
 }
 
--- one alternative and then another, whose variables come after those of the first; `n` is the number
--- of variables in scope
+-- one alternative and then another, whose variables come after those of the first; `n` is the
+-- number of variables in scope
 abbrev pub alternative_joined : ℕ → Alternative → Alternative → Alternative
 alternative_joined n a b = record {
   variables = a.variables + b.variables;

@@ -21,7 +21,7 @@ fn is_atom(formula: &Formula) -> bool
 }
 
 #[cycle(plain)]
-fn are_plain(members: &[Formula]) -> bool
+pub(crate) fn are_plain(members: &[Formula]) -> bool
     ensures { result ≡ each_is_plain members.now }
 {
     for member in members {

@@ -300,7 +300,8 @@ fn members_of(members: &[Formula]) -> Members
     all
 }
 
-/// What the reading of a formula gives in each role, in one pass over its nodes. It takes no memory.
+/// What the reading of a formula gives in each role, in one pass over its nodes. It takes no
+/// memory.
 #[cycle(accounts)]
 pub(crate) fn account_of(formula: &Formula) -> Account
     ensures { result ≡ account_at formula.now }

@@ -18,8 +18,8 @@ use Rattle.larus_cli.specs.Words.{command_of, check_words, convert_words, names_
 use Rattle.larus_cli.specs.Done.{Done, accepted, converted}
 use Rattle.larus_cli.specs.Follows.{ProblemFollows}
 use Rattle.larus_cli.specs.Printed.{ReadsBack, ProblemPrinted}
-use Rattle.larus_cli.specs.Answers.{IsAsked, of_problem, as_second, Answer, done, refused, problem_refused, problem_not_built}
-use Rattle.larus_cli.specs.Answers.{too_long, no_tokens, no_proof, usage, fault}
+use Rattle.larus_cli.specs.Answers.{IsAsked, of_problem, as_second, Answer, done, refused, problem_refused, formula_refused}
+use Rattle.larus_cli.specs.Answers.{too_long, not_ground, no_tokens, no_proof, usage, fault}
 use Rattle.larus_cli.specs.Outcome.{Sinks, sinks, PutsTo, Outcome, answered, broken, out_of_memory}
 
 -- an answer with status 0 goes to the output, and the command is done
@@ -69,7 +69,7 @@ follows_of s law {words = words} {files = files} outcome problem proof are e = b
     by : {text : Text} → Done words files text → ProblemFollows s files problem
     by (accepted other another bytes formulas size also reads holds is) =
         subst (ProblemFollows s files) (check_same words problem proof other another are also)
-        (flat_follows s files.held other reads.flat reads.reads
+        (flat_follows s files.held other reads.flat reads.read.reads
         (subst (Follows s) (sym reads.are.are) (law formulas is.steps is.body reads.are.one_goal is.accepted)))
     by (converted other text formulas also reads is back) = absurd (apart words problem proof other are also)
 
@@ -111,7 +111,7 @@ done_some {words = words} (converted problem text formulas are reads is back) no
 -- words that ask for a file are a command
 asked_some : {words : List Text} {files : Known} {file : Text} → IsAsked words files file → command_of words ≡ None → ⊥
 asked_some {words = words} (of_problem problem names asked) none = names_some words _ names.1 none
-asked_some {words = words} (as_second problem formulas names reads) none = names_some words _ names none
+asked_some {words = words} (as_second problem formulas task names reads) none = names_some words _ names none
 
 -- words that are no command are answered with the usage text
 usage_row : {words : List Text} {files later : Known} {output : Bool} {text : Text} {status : ℕ} → Answer words files later output text status →
@@ -119,8 +119,9 @@ usage_row : {words : List Text} {files later : Known} {output : Bool} {text : Te
 usage_row (done text row) none = absurd (done_some row none)
 usage_row {words = words} (refused problem proof bytes formulas are reads holds is) none = absurd (check_some words problem proof are none)
 usage_row {words = words} (problem_refused problem file why names told inner) none = absurd (names_some words _ names.1 none)
-usage_row {words = words} (problem_not_built problem second formulas names reads is) none = absurd (names_some words _ names none)
-usage_row {words = words} (too_long problem second formulas names reads long) none = absurd (names_some words _ names none)
+usage_row {words = words} (formula_refused problem second formulas refusal names reads is) none = absurd (names_some words _ names none)
+usage_row {words = words} (too_long problem second formulas task names reads long) none = absurd (names_some words _ names none)
+usage_row {words = words} (not_ground problem second bytes formulas task names reads holds is) none = absurd (names_some words _ names none)
 usage_row {words = words} (no_tokens problem second bytes formulas refusal names reads holds is) none = absurd (names_some words _ names none)
 usage_row {words = words} (no_proof problem second bytes formulas names reads holds is) none = absurd (names_some words _ names none)
 usage_row (usage is) none = refl

@@ -1,8 +1,9 @@
 -- What is said where a command ends early is a row of the table of answers.
 use Rattle.std.specs.Prelude.{◌≢◌, IfSome}
-use Rattle.std.proofs.Common.{◌≡◌, inl, inr, ◌++◌, false, List, Option, Some, None, sym, subst, refl, arith}
+use Rattle.std.proofs.Common.{◌≡◌, inl, inr, ◌⊎◌, ◌++◌, false, List, Option, Some, None, ap, sym, subst, refl, arith}
 use Rattle.text_core.specs.declared.limits.TheConstants.{MOST_FILE_BYTES}
 use Rattle.text_core.specs.Names.{Text}
+use Rattle.logic_core.specs.declared.problem.Fof.{Fof}
 use Rattle.io_core.specs.Held.{Held}
 use Rattle.io_core.specs.Known.{Known}
 use Rattle.io_core.specs.Fetched.{Grows, Fails, Holds, IsLong, IsTooLong}
@@ -10,11 +11,13 @@ use Rattle.io_core.proofs.Laws.{grows_on}
 use Rattle.include_flat.specs.declared.refusal.FlatWhy.{FlatWhy}
 use Rattle.include_flat.specs.declared.refusal.FlatWhy.TheVariants as flat
 use Rattle.include_flat.specs.Refusals.{IsFlatRefused, IsFlatRefusal, IsOutside}
-use Rattle.proof_checker.specs.declared.ground.GroundFormula.{GroundFormula}
+use Rattle.coherent_form.specs.declared.task_refusal.TaskRefusal.{TaskRefusal}
+use Rattle.coherent_form.specs.declared.task_refusal.TaskWhy.TheVariants as task
+use Rattle.coherent_form.specs.Tasks.{CitedTask, IsTaskFault}
 use Rattle.larus_cli.specs.Words.{check_words, convert_words, NamesProblem, NamesBoth}
-use Rattle.larus_cli.specs.Done.{ReadsGround}
-use Rattle.larus_cli.specs.Answers.{Answer, of_problem, as_second, problem_refused, too_long, fault}
-use Rattle.larus_cli.specs.Texts.{flat_text, fault_text, too_long_text}
+use Rattle.larus_cli.specs.Done.{ReadsProblem, ReadsTask}
+use Rattle.larus_cli.specs.Answers.{Answer, of_problem, as_second, problem_refused, formula_refused, too_long, fault}
+use Rattle.larus_cli.specs.Texts.{flat_text, formula_text, fault_text, too_long_text}
 
 -- the files that the words of a command name
 pub names_check : (words : List Text) (problem proof : Text) → words ≡ check_words problem proof → NamesBoth words problem proof
@@ -55,6 +58,15 @@ problem_told words files later problem file why names told fetched room =
     inner (inl e) = fetched e
     inner (inr e) = room e
 
+-- a formula of the problem of a proof that is refused
+pub formula_told : (words : List Text) (files later : Known) (problem second : Text) (formulas : List Fof) (refusal : TaskRefusal) →
+    NamesBoth words problem second → ReadsProblem files problem formulas → refusal.why ≢ task.Memory →
+    (refusal ≡ record { formula = 0; why = task.Memory }) ⊎ IsTaskFault formulas refusal →
+    Answer words files later false (formula_text refusal) 2
+formula_told words files later problem second formulas refusal names reads some (inl e) = absurd (some (ap (λ (r : TaskRefusal). r.why) e))
+formula_told words files later problem second formulas refusal names reads some (inr is) =
+    formula_refused problem second formulas refusal names reads is
+
 -- a fetch that fails behind others
 fails_behind : {before middle later : Known} {name : Text} → Grows before middle → Fails middle later name → Fails before later name
 fails_behind a b = record {
@@ -64,17 +76,17 @@ fails_behind a b = record {
 }
 
 -- a second file that could not be fetched
-pub second_fault : (words : List Text) (before middle later : Known) (problem name : Text) (formulas : List GroundFormula) →
-    Grows before middle → NamesBoth words problem name → ReadsGround before problem formulas → Fails middle later name →
+pub second_fault : (words : List Text) (before middle later : Known) (problem name : Text) (formulas : List Fof) (task : CitedTask) →
+    Grows before middle → NamesBoth words problem name → ReadsTask before problem formulas task → Fails middle later name →
     Answer words before later false (name ++ fault_text) 66
-second_fault words before middle later problem name formulas grows names reads fails =
-    fault name (as_second problem formulas names reads) (fails_behind grows fails)
+second_fault words before middle later problem name formulas task grows names reads fails =
+    fault name (as_second problem formulas task names reads) (fails_behind grows fails)
 
 -- a second file that has too many bytes
-pub second_too_long : (words : List Text) (before middle later : Known) (problem name : Text) (formulas : List GroundFormula) →
-    Grows before middle → NamesBoth words problem name → ReadsGround before problem formulas →
+pub second_too_long : (words : List Text) (before middle later : Known) (problem name : Text) (formulas : List Fof) (task : CitedTask) →
+    Grows before middle → NamesBoth words problem name → ReadsTask before problem formulas task →
     IsTooLong MOST_FILE_BYTES name middle later → Answer words before later false (name ++ too_long_text) 3
-second_too_long words before middle later problem name formulas grows names reads long = too_long problem name formulas names reads
+second_too_long words before middle later problem name formulas task grows names reads long = too_long problem name formulas task names reads
     (subst (λ held. IfSome held (λ h. IsLong h name MOST_FILE_BYTES)) grows.held long.longer)
 
 -- what a later look at the files tells of them was so before

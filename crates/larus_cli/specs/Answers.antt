@@ -9,6 +9,8 @@ use Rattle.io_core.specs.Fetched.{Holds, Fails, IsLong}
 use Rattle.tptp_lexer.specs.declared.refusal.LexRefusal.{LexRefusal}
 use Rattle.include_flat.specs.declared.refusal.FlatWhy.{FlatWhy}
 use Rattle.include_flat.specs.Refusals.{IsFlatRefused, IsAskedFor, IsOutside}
+use Rattle.coherent_form.specs.declared.task_refusal.TaskRefusal.{TaskRefusal}
+use Rattle.coherent_form.specs.Tasks.{CitedTask, IsTaskFault}
 use Rattle.proof_checker.specs.declared.ground.GroundFormula.{GroundFormula}
 use Rattle.proof_checker.specs.declared.problem.NotGround.TheVariants as unground
 use Rattle.proof_checker.specs.declared.words.NotRead.TheVariants as unread
@@ -17,15 +19,16 @@ use Rattle.proof_checker.specs.Unread.{IsUnread}
 use Rattle.proof_checker.specs.Accepted.{Refuses}
 use Rattle.larus_cli.specs.Words.{command_of, check_words, NamesProblem, NamesBoth}
 use Rattle.larus_cli.specs.Texts.{lexical_text, fault_text, too_long_text, not_built_text, flat_text}
-use Rattle.larus_cli.specs.Texts.{refused_text, usage_text}
-use Rattle.larus_cli.specs.Done.{ReadsProblem, ReadsGround, Done}
+use Rattle.larus_cli.specs.Texts.{formula_text, refused_text, usage_text}
+use Rattle.larus_cli.specs.Done.{ReadsProblem, ReadsTask, ReadsGround, Done}
 
 -- the files are asked for this one: by the walk over the problem, or as the second file
 pub data IsAsked (words : List Text) (files : Known) (file : Text) : Type 0 where
   of_problem : (problem : Text) → NamesProblem words problem →
       IfSome files.held (λ held. IsAskedFor held problem file) → IsAsked words files file
-  as_second : (problem : Text) (formulas : List GroundFormula) → NamesBoth words problem file →
-      ReadsGround files problem formulas → IsAsked words files file
+  as_second : (problem : Text) (formulas : List Fof) (task : CitedTask) →
+      NamesBoth words problem file → ReadsTask files problem formulas task →
+      IsAsked words files file
 
 -- a text goes to the output (true) or to the errors (false), with a status
 pub data Answer (words : List Text) (files later : Known) : Bool → Text → ℕ → Type 0 where
@@ -40,16 +43,21 @@ pub data Answer (words : List Text) (files later : Known) : Bool → Text → �
   problem_refused : (problem file : Text) (why : FlatWhy) → NamesProblem words problem →
       IfSome files.held (λ held. IsFlatRefused held problem file why) → ¬ (IsOutside why) →
       Answer words files later false (file ++ flat_text why) 2
-  -- 2: the problem of a proof is not ground
-  problem_not_built : (problem second : Text) (formulas : List Fof) →
+  -- 2: a formula of the problem of a proof is refused
+  formula_refused : (problem second : Text) (formulas : List Fof) (refusal : TaskRefusal) →
       NamesBoth words problem second → ReadsProblem files problem formulas →
-      IsUnground formulas unground.NotBuilt →
-      Answer words files later false (problem ++ not_built_text) 2
+      IsTaskFault formulas refusal →
+      Answer words files later false (formula_text refusal) 2
   -- 3: the second file has too many bytes
-  too_long : (problem second : Text) (formulas : List GroundFormula) →
-      NamesBoth words problem second → ReadsGround files problem formulas →
+  too_long : (problem second : Text) (formulas : List Fof) (task : CitedTask) →
+      NamesBoth words problem second → ReadsTask files problem formulas task →
       IfSome files.held (λ held. IsLong held second MOST_FILE_BYTES) →
       Answer words files later false (second ++ too_long_text) 3
+  -- 3: no proof of the problem is read, since it is not ground
+  not_ground : (problem second bytes : Text) (formulas : List Fof) (task : CitedTask) →
+      NamesBoth words problem second → ReadsTask files problem formulas task →
+      Holds files second bytes MOST_FILE_BYTES → IsUnground formulas unground.NotBuilt →
+      Answer words files later false (second ++ not_built_text) 3
   -- 3: the bytes of the second file have no tokens
   no_tokens : (problem second bytes : Text) (formulas : List GroundFormula) (refusal : LexRefusal) →
       NamesBoth words problem second → ReadsGround files problem formulas →

@@ -7,6 +7,7 @@ use Rattle.io_core.specs.Known.{Known}
 use Rattle.io_core.specs.Fetched.{Holds}
 use Rattle.tptp_printer.specs.Canonical.{problem_text}
 use Rattle.include_flat.specs.Flattened.{IsFlat}
+use Rattle.coherent_form.specs.Tasks.{CitedTask, IsTaskOf}
 use Rattle.proof_checker.specs.declared.ground.GroundFormula.{GroundFormula}
 use Rattle.proof_checker.specs.Ground.{IsGroundProblem}
 use Rattle.proof_checker.specs.Accepted.{AcceptsWith}
@@ -19,10 +20,17 @@ use Rattle.larus_cli.specs.Printed.{ReadsBack}
 abbrev pub ReadsProblem : Known → Text → List Fof → Type 0
 ReadsProblem files name formulas = IfSome files.held (λ held. IsFlat held name formulas)
 
--- the problem in this file is ground, with these formulas
+-- the problem in this file is flat with these formulas, which have this task
+pub record ReadsTask (files : Known) (name : Text) (formulas : List Fof) (task : CitedTask)
+    : Type 0 where
+  pub reads : ReadsProblem files name formulas
+  pub has : IsTaskOf formulas task
+
+-- the problem in this file has a task, and is ground, with these formulas
 pub record ReadsGround (files : Known) (name : Text) (formulas : List GroundFormula) : Type 0 where
   pub flat : List Fof
-  pub reads : ReadsProblem files name flat
+  pub task : CitedTask
+  pub read : ReadsTask files name flat task
   pub are : IsGroundProblem flat formulas
 
 -- the text is what is printed, with status 0, for words that ask for it

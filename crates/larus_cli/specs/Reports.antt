@@ -6,12 +6,12 @@ use Rattle.larus_cli.specs.declared.report.ProofWhy.{ProofWhy}
 use Rattle.larus_cli.specs.declared.report.ProofWhy.TheVariants as proof
 use Rattle.larus_cli.specs.declared.report.Report.{Report}
 use Rattle.larus_cli.specs.declared.report.Report.TheVariants.{Accepted, Refused, Converted, FileFault}
-use Rattle.larus_cli.specs.declared.report.Report.TheVariants.{ProblemFile, ProblemNotBuilt, ProofFile}
+use Rattle.larus_cli.specs.declared.report.Report.TheVariants.{ProblemFile, ProblemFormula, ProofFile}
 use Rattle.larus_cli.specs.declared.reply.Reply.{Reply}
 use Rattle.larus_cli.specs.declared.decide.Halt.{Halt}
 use Rattle.larus_cli.specs.declared.decide.Halt.TheVariants as halt
 use Rattle.larus_cli.specs.Texts.{lexical_text, fault_text, too_long_text, not_built_text, flat_text}
-use Rattle.larus_cli.specs.Texts.{accepted_text, refused_text}
+use Rattle.larus_cli.specs.Texts.{formula_text, accepted_text, refused_text}
 use Rattle.larus_cli.specs.Answers.{Answer}
 
 -- what is behind the name of a proof's file
@@ -28,8 +28,8 @@ reply_of (Converted text) = record { text = text; is_output = true; status = 0 }
 reply_of (FileFault file) = record { text = file ++ fault_text; is_output = false; status = 66 }
 reply_of (ProblemFile refusal) =
     record { text = refusal.file ++ flat_text refusal.why; is_output = false; status = 2 }
-reply_of (ProblemNotBuilt file) =
-    record { text = file ++ not_built_text; is_output = false; status = 2 }
+reply_of (ProblemFormula refusal) =
+    record { text = formula_text refusal; is_output = false; status = 2 }
 reply_of (ProofFile refusal) =
     record { text = refusal.file ++ proof_text refusal.why; is_output = false; status = 3 }
 

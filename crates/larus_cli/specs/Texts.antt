@@ -8,6 +8,9 @@ use Rattle.tptp_grammar.specs.declared.refusal.SyntaxRefusal.{SyntaxRefusal}
 use Rattle.tptp_grammar.specs.declared.refusal.SyntaxRefusal.TheVariants as syntax
 use Rattle.include_flat.specs.declared.refusal.FlatWhy.{FlatWhy}
 use Rattle.include_flat.specs.declared.refusal.FlatWhy.TheVariants as flat
+use Rattle.coherent_form.specs.declared.task_refusal.TaskWhy.{TaskWhy}
+use Rattle.coherent_form.specs.declared.task_refusal.TaskWhy.TheVariants as task
+use Rattle.coherent_form.specs.declared.task_refusal.TaskRefusal.{TaskRefusal}
 
 -- a line feed (10) behind a text
 abbrev pub ended : Text → Text
@@ -56,8 +59,21 @@ flat_text flat.IncludeDepth = ended (codes ": 14 IncludeDepth")
 flat_text flat.TooManyFormulas = ended (codes ": 15 TooManyFormulas")
 flat_text flat.Memory = []
 
+-- what is behind the number of a formula that is refused; nothing is told of want of memory
+abbrev pub task_text : TaskWhy → Text
+task_text (task.NotCoherent node) = codes ": 16 NotCoherent " ++ ended (decimal node)
+task_text task.TooWide = ended (codes ": 17 TooWide")
+task_text task.TooManyConjectures = ended (codes ": 18 TooManyConjectures")
+task_text task.TooManyForms = ended (codes ": 46 TooManyForms")
+task_text task.ManyGoals = ended (codes ": 47 ManyGoals")
+task_text task.Memory = []
+
+-- the number of a formula that is refused, and why
+abbrev pub formula_text : TaskRefusal → Text
+formula_text refusal = codes "formula " ++ decimal refusal.formula ++ task_text refusal.why
+
 abbrev pub accepted_text : ℕ → Text
-accepted_text size = codes "accepted " ++ decimal size ++ 10 ∷ []
+accepted_text size = codes "accepted " ++ ended (decimal size)
 
 abbrev pub refused_text : Text
 refused_text = ended (codes "refused")

@@ -1,21 +1,24 @@
-ghost use Rattle.std.specs.Prelude.{◌≡◌, IfOk, IfErr, List as Lst};
+ghost use Rattle.std.specs.Prelude.{◌≡◌, ◌≤◌, length, IfOk, IfErr, List as Lst};
 ghost use Rattle.text_core.specs.Names.{Text};
 ghost use Rattle.io_core.specs.Known.{Known};
 ghost use Rattle.io_core.specs.Fetched.{Grows, Holds};
-ghost use Rattle.proof_checker.specs.declared.ground.GroundFormula.{GroundFormula as Ground};
+ghost use Rattle.logic_core.specs.declared.problem.Fof.{Fof as Formula};
+ghost use Rattle.coherent_form.specs.Tasks.{CitedTask};
+ghost use Rattle.proof_checker.specs.Ground.{goals_of};
 ghost use Rattle.text_core.specs.declared.limits.TheConstants.{MOST_FILE_BYTES};
 ghost use Rattle.larus_cli.specs.declared.report.Report.TheVariants.{ProofFile};
-ghost use Rattle.larus_cli.specs.Words.{command_of, NamesProblem, NamesBoth};
-ghost use Rattle.larus_cli.specs.Done.{ReadsProblem, ReadsGround};
+ghost use Rattle.larus_cli.specs.Words.{command_of, check_words, NamesProblem, NamesBoth};
+ghost use Rattle.larus_cli.specs.Done.{ReadsProblem, ReadsTask, ReadsGround};
 ghost use Rattle.larus_cli.specs.Answers.{Answer};
 ghost use Rattle.larus_cli.specs.Reports.{Decides, Halts};
 
 use crate::command::{Command, check_names, convert_name};
 use crate::reply::{Reply, reply_of};
 use crate::report::{ProofRefusal, ProofWhy, Report};
+use coherent_form::{Task, TaskWhy};
 use include_flat::{FlatWhy, flatten};
 use io_core::{FetchFault, Files, fetch_whole};
-use logic_core::{Bytes, List, Memory, Problem};
+use logic_core::{Bytes, Memory, Problem};
 use proof_checker::{FirstRefusal, GroundFormula, NotGround, check_first, ground_formulas};
 use std::alloc::Global;
 use tptp_printer::print_problem;
@@ -56,25 +59,22 @@ fn read_problem<F: Files>(alloc: Global, files: &mut F, name: &[u8]) -> Result<P
     }
 }
 
-/// The ground formulas of the problem in a file, for a command that reads a second file.
-fn read_ground<F: Files>(
-    alloc: Global,
-    files: &mut F,
-    name: &[u8],
-) -> Result<List<GroundFormula>, Halt>
-    ensures reads { IfOk result (ReadsGround (F.known files.old) name.now) }
+/// The formulas of the problem in a file, for a command that reads a second file: one that has a
+/// task.
+fn read_task<F: Files>(alloc: Global, files: &mut F, name: &[u8]) -> Result<Problem, Halt>
+    ensures reads { IfOk result (λ formulas. (task : CitedTask)
+        × ReadsTask (F.known files.old) name.now formulas task) }
     ensures halts { (words : Lst Text) (second : Text) → NamesBoth words name.now second
         → IfErr result (Halts words (F.known files.old) (F.known files.new)) }
     ensures grows { Grows (F.known files.old) (F.known files.new) }
 {
     let problem = read_problem(alloc, files, name)?;
-    match ground_formulas(alloc, &problem) {
-        Ok(formulas) => Ok(formulas),
-        Err(NotGround::NotBuilt) => {
-            let file = Bytes::from_slice(alloc, name)?;
-            Err(Halt::Said(Report::ProblemNotBuilt(file)))
-        }
-        Err(NotGround::Memory) => Err(Halt::Memory),
+    match Task::build(alloc, &problem) {
+        Ok(_) => Ok(problem),
+        Err(refusal) => match refusal.why {
+            TaskWhy::Memory => Err(Halt::Memory),
+            _ => Err(Halt::Said(Report::ProblemFormula(refusal))),
+        },
     }
 }
 
@@ -90,9 +90,9 @@ fn refused(alloc: Global, name: &[u8], why: ProofWhy) -> Result<Report, Memory>
 fn read_second<F: Files>(alloc: Global, files: &mut F, name: &[u8]) -> Result<Bytes, Halt>
     ensures holds { IfOk result (λ bytes. Holds
         (F.known files.old) name.now bytes MOST_FILE_BYTES) }
-    ensures halts { (words : Lst Text) (before : Known) (problem : Text) (formulas : Lst Ground)
-        → Grows before (F.known files.old) → NamesBoth words problem name.now
-        → ReadsGround before problem formulas
+    ensures halts { (words : Lst Text) (before : Known) (problem : Text) (formulas : Lst Formula)
+        (task : CitedTask) → Grows before (F.known files.old)
+        → NamesBoth words problem name.now → ReadsTask before problem formulas task
         → IfErr result (Halts words before (F.known files.new)) }
     ensures grows { Grows (F.known files.old) (F.known files.new) }
 {
@@ -110,16 +110,20 @@ fn read_second<F: Files>(alloc: Global, files: &mut F, name: &[u8]) -> Result<By
     }
 }
 
-/// What there is to say of a proof of a problem. The problem is read first.
-fn check<F: Files>(alloc: Global, words: &[Bytes], files: &mut F) -> Result<Report, Halt>
-    requires { command_of words.now ≡ Some Command.Check }
-    ensures decides { Decides words.now (F.known files.old) (F.known files.new) result }
-    ensures grows { Grows (F.known files.old) (F.known files.new) }
+/// What there is to say of a proof of ground formulas.
+fn check_formulas(
+    alloc: Global,
+    formulas: &[GroundFormula],
+    name: &[u8],
+    bytes: &[u8],
+) -> Result<Report, Halt>
+    requires goal { length (goals_of formulas.now) ≡ 1 }
+    requires short { length bytes.now ≤ MOST_FILE_BYTES }
+    ensures { (words : Lst Text) (files later : Known) (problem : Text)
+        → words ≡ check_words problem name.now → ReadsGround files problem formulas.now
+        → Holds files name.now bytes.now MOST_FILE_BYTES → Decides words files later result }
 {
-    let (problem, name) = check_names(words);
-    let formulas = read_ground(alloc, files, problem)?;
-    let bytes = read_second(alloc, files, name)?;
-    match check_first(alloc, formulas.as_slice(), bytes.as_slice()) {
+    match check_first(alloc, formulas, bytes) {
         Ok(size) => Ok(Report::Accepted(size)),
         Err(FirstRefusal::Refused) => Ok(Report::Refused),
         Err(FirstRefusal::Lexical(refusal)) => {
@@ -132,6 +136,36 @@ fn check<F: Files>(alloc: Global, words: &[Bytes], files: &mut F) -> Result<Repo
         }
         Err(FirstRefusal::Memory) => Err(Halt::Memory),
     }
+}
+
+/// What there is to say of a proof of a problem that has a task. Where the problem is not ground,
+/// it is that no proof of it is read yet.
+fn check_ground(alloc: Global, problem: &Problem, name: &[u8], bytes: &[u8]) -> Result<Report, Halt>
+    requires short { length bytes.now ≤ MOST_FILE_BYTES }
+    ensures { (words : Lst Text) (files later : Known) (file : Text) (task : CitedTask)
+        → words ≡ check_words file name.now → ReadsTask files file problem.now task
+        → Holds files name.now bytes.now MOST_FILE_BYTES → Decides words files later result }
+{
+    match ground_formulas(alloc, problem) {
+        Ok(formulas) => check_formulas(alloc, formulas.as_slice(), name, bytes),
+        Err(NotGround::NotBuilt) => {
+            let report = refused(alloc, name, ProofWhy::NotBuilt)?;
+            Ok(report)
+        }
+        Err(NotGround::Memory) => Err(Halt::Memory),
+    }
+}
+
+/// What there is to say of a proof of a problem. The problem is read and its task built first.
+fn check<F: Files>(alloc: Global, words: &[Bytes], files: &mut F) -> Result<Report, Halt>
+    requires { command_of words.now ≡ Some Command.Check }
+    ensures decides { Decides words.now (F.known files.old) (F.known files.new) result }
+    ensures grows { Grows (F.known files.old) (F.known files.new) }
+{
+    let (problem, name) = check_names(words);
+    let formulas = read_task(alloc, files, problem)?;
+    let bytes = read_second(alloc, files, name)?;
+    check_ground(alloc, &formulas, name, bytes.as_slice())
 }
 
 /// What there is to say of a problem that is to be printed.

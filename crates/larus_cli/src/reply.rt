@@ -1,8 +1,10 @@
 ghost use Rattle.std.specs.Prelude.{◌≡◌, ◌++◌, true, false, IfOk};
+ghost use Rattle.std.specs.Fmt.{decimal};
 ghost use Rattle.larus_cli.specs.Texts as texts;
 ghost use Rattle.larus_cli.specs.Reports.{proof_text, reply_of};
 
 use crate::report::{ProofRefusal, ProofWhy, Report};
+use coherent_form::{TaskRefusal, TaskWhy};
 use include_flat::{FlatRefusal, FlatWhy};
 use logic_core::{Bytes, Memory};
 use std::alloc::Global;
@@ -98,12 +100,38 @@ fn proof(alloc: Global, refusal: &ProofRefusal) -> Result<Bytes, Memory>
     }
 }
 
+/// A number behind a text.
+fn numbered(alloc: Global, text: &[u8], number: u32) -> Result<Bytes, Memory>
+    ensures { IfOk result (λ all. all ≡ text.now ++ decimal number) }
+{
+    let digits = number.to_string(alloc)?;
+    let mut all = Bytes::from_slice(alloc, text)?;
+    all.extend_from_slice(digits.as_bytes())?;
+    Ok(all)
+}
+
+fn formula(alloc: Global, refusal: &TaskRefusal) -> Result<Bytes, Memory>
+    ensures { IfOk result (λ all. all ≡ texts.formula_text refusal.now) }
+{
+    let front = numbered(alloc, b"formula ", refusal.formula)?;
+    let front = front.as_slice();
+    match &refusal.why {
+        TaskWhy::NotCoherent { node } => {
+            let text = numbered(alloc, b": 16 NotCoherent ", *node)?;
+            named(alloc, front, text.as_slice())
+        }
+        TaskWhy::TooWide => named(alloc, front, b": 17 TooWide"),
+        TaskWhy::TooManyConjectures => named(alloc, front, b": 18 TooManyConjectures"),
+        TaskWhy::TooManyForms => named(alloc, front, b": 46 TooManyForms"),
+        TaskWhy::ManyGoals => named(alloc, front, b": 47 ManyGoals"),
+        TaskWhy::Memory => Err(Memory),
+    }
+}
+
 fn accepted(alloc: Global, size: u32) -> Result<Bytes, Memory>
     ensures { IfOk result (λ all. all ≡ texts.accepted_text size) }
 {
-    let digits = size.to_string(alloc)?;
-    let mut all = Bytes::from_slice(alloc, b"accepted ")?;
-    all.extend_from_slice(digits.as_bytes())?;
+    let mut all = numbered(alloc, b"accepted ", size)?;
     all.push(b'\n')?;
     Ok(all)
 }
@@ -143,10 +171,7 @@ pub(crate) fn reply_of(alloc: Global, report: Report) -> Result<Reply, Memory>
             66,
         ),
         Report::ProblemFile(refusal) => complained(flat(alloc, &refusal)?, 2),
-        Report::ProblemNotBuilt(file) => complained(
-            named(alloc, file.as_slice(), b": 45 NotBuilt")?,
-            2,
-        ),
+        Report::ProblemFormula(refusal) => complained(formula(alloc, &refusal)?, 2),
         Report::ProofFile(refusal) => complained(proof(alloc, &refusal)?, 3),
     })
 }

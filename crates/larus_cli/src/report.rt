@@ -1,3 +1,4 @@
+use coherent_form::TaskRefusal;
 use include_flat::FlatRefusal;
 use logic_core::Bytes;
 use tptp_lexer::LexRefusal;
@@ -16,7 +17,7 @@ pub enum ProofWhy {
     Lexical(LexRefusal),
     /// It has more than `MOST_FILE_BYTES` bytes.
     FileTooLong,
-    /// Its form is not built yet.
+    /// Its form, or that of the problem's proofs, is not built yet.
     NotBuilt,
 }
 
@@ -34,8 +35,8 @@ pub enum Report {
     FileFault(Bytes),
     /// A file of the problem is refused, for another reason than a fetch that failed.
     ProblemFile(FlatRefusal),
-    /// The form of the problem in this file is not built yet.
-    ProblemNotBuilt(Bytes),
+    /// A formula of the problem is refused.
+    ProblemFormula(TaskRefusal),
     /// The proof's file is refused, for another reason than a fetch that failed.
     ProofFile(ProofRefusal),
 }

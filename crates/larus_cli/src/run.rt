@@ -67,10 +67,10 @@ fn answer<F: Files, O: Sink, E: Sink>(
 
 /// The program: it does what the words, those after the program's name, ask for, with these files
 /// and these two sinks, and answers the status with which it ends. 0: the proof is accepted, or the
-/// problem printed. 1: the proof is not accepted. 2: a file of the problem is refused. 3: the
-/// proof's file is refused. 64: the words are no command. 66: a file could not be fetched. 71: want
-/// of memory. 74: the sink of the answer failed. What is said of structures holds in each structure
-/// of every family `W`, which no code can look at.
+/// problem printed. 1: the proof is not accepted. 2: a file or a formula of the problem is refused.
+/// 3: the proof's file is refused. 64: the words are no command. 66: a file could not be fetched.
+/// 71: want of memory. 74: the sink of the answer failed. What is said of structures holds in each
+/// structure of every family `W`, which no code can look at.
 pub fn run<W: World, F: Files, O: Sink, E: Sink>(
     alloc: Global,
     words: &[Bytes],

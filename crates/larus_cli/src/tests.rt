@@ -112,10 +112,66 @@ const REFUSED_PROBLEMS: &[(Entries, u8, &[u8])] = &[
     (&[], 66, b"x.p: 11 FileFault\n"),
 ];
 
-// Proofs that are not read, with what is put to the errors.
-const REFUSED_PROOFS: &[(&[u8], &[u8])] = &[
-    (b"vernacular 1. take []. /* x", b"x.v:23: 3 OpenComment\n"),
-    (b"", b"x.v: 45 NotBuilt\n"),
+// An axiom with one variable more than a form may have.
+const WIDE: &[u8] = b"fof(a,axiom,! [X0,X1,X2,X3,X4,X5,X6,X7,X8,X9,X10,X11,X12,
+X13,X14,X15,X16,X17,X18,X19,X20,X21,X22,X23,X24,X25,
+X26,X27,X28,X29,X30,X31,X32,X33,X34,X35,X36,X37,X38,
+X39,X40,X41,X42,X43,X44,X45,X46,X47,X48,X49,X50,X51,
+X52,X53,X54,X55,X56,X57,X58,X59,X60,X61,X62,X63,X64] : p).";
+
+// Files of a problem and a proof that are refused in a check, with the status and what is put to
+// the errors.
+const REFUSED_CHECKS: &[(Entries, u8, &[u8])] = &[
+    // formulas are looked at before the proof is fetched
+    (
+        &[(b"x.p", b"fof(g,conjecture,p <=> q).")],
+        2,
+        b"formula 1: 47 ManyGoals\n",
+    ),
+    (
+        &[(b"x.p", b"fof(a,axiom,~ (p & q)).")],
+        2,
+        b"formula 1: 16 NotCoherent 0\n",
+    ),
+    (
+        &[(b"x.p", b"fof(a,axiom,(p => q) => r).")],
+        2,
+        b"formula 1: 16 NotCoherent 1\n",
+    ),
+    (&[(b"x.p", WIDE)], 2, b"formula 1: 17 TooWide\n"),
+    (
+        &[(b"x.p", b"fof(g,conjecture,p). fof(h,conjecture,p).")],
+        2,
+        b"formula 2: 18 TooManyConjectures\n",
+    ),
+    // formulas of included files count
+    (
+        &[
+            (b"a", b"fof(a1,axiom,p). fof(a2,axiom,q)."),
+            (b"x.p", b"include('a'). fof(g,conjecture,p <=> q)."),
+        ],
+        2,
+        b"formula 3: 47 ManyGoals\n",
+    ),
+    // no proof of a problem that is not ground is read
+    (
+        &[
+            (b"x.p", b"fof(a,axiom,! [X] : p(X) & q)."),
+            (b"x.v", b"/* x"),
+        ],
+        3,
+        b"x.v: 45 NotBuilt\n",
+    ),
+    (
+        &[(b"x.p", PROBLEM), (b"x.v", b"vernacular 1. take []. /* x")],
+        3,
+        b"x.v:23: 3 OpenComment\n",
+    ),
+    (
+        &[(b"x.p", PROBLEM), (b"x.v", b"")],
+        3,
+        b"x.v: 45 NotBuilt\n",
+    ),
 ];
 
 fn words_of(alloc: Global, texts: &[&[u8]]) -> Result<List<Bytes>, Fail> {
@@ -177,24 +233,26 @@ fn an_answer_goes_to_the_output(rt: HostRuntime) -> Result<(), Fail> {
     Ok(())
 }
 
-#[test]
-fn a_refused_problem_goes_to_the_errors(rt: HostRuntime) -> Result<(), Fail> {
-    for words in [CHECK, CONVERT] {
-        for (entries, status, text) in REFUSED_PROBLEMS {
-            let files = files_of(rt.alloc(), entries)?;
-            assert_ends(&rt, rt.alloc(), words, files, (*status, b"", text))?;
-        }
+/// Runs the program on these words over the files of each row, and looks at its status and at what
+/// is put to the errors.
+fn assert_refused(
+    rt: &impl Abort,
+    alloc: Global,
+    words: &[&[u8]],
+    rows: &[(Entries, u8, &[u8])],
+) -> Result<(), Fail> {
+    for (entries, status, text) in rows {
+        let files = files_of(alloc, entries)?;
+        assert_ends(rt, alloc, words, files, (*status, b"", text))?;
     }
     Ok(())
 }
 
 #[test]
-fn a_proof_that_is_not_read_goes_to_the_errors(rt: HostRuntime) -> Result<(), Fail> {
-    for (proof, text) in REFUSED_PROOFS {
-        let files = files_of(rt.alloc(), &[(b"x.p", PROBLEM), (b"x.v", proof)])?;
-        assert_ends(&rt, rt.alloc(), CHECK, files, (3, b"", text))?;
-    }
-    Ok(())
+fn a_refusal_goes_to_the_errors(rt: HostRuntime) -> Result<(), Fail> {
+    assert_refused(&rt, rt.alloc(), CHECK, REFUSED_PROBLEMS)?;
+    assert_refused(&rt, rt.alloc(), CONVERT, REFUSED_PROBLEMS)?;
+    assert_refused(&rt, rt.alloc(), CHECK, REFUSED_CHECKS)
 }
 
 #[test]

@@ -11,6 +11,13 @@ pub mod Read
 pub mod ScriptOrRefusal
 pub mod Opened
 pub mod Standing
+pub mod PrintedNames
+pub mod ScriptStands
+pub mod Inside
+pub mod PrintedLines
+pub mod ScriptProper
+pub mod StepWritten
+pub mod BodyWritten
 pub mod TokenPieces
 pub mod NumberPieces
 pub mod SignPieces

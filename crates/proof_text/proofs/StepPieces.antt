@@ -13,10 +13,10 @@ use Rattle.tptp_lexer.specs.Tokens.{Token as LexToken}
 use Rattle.tptp_lexer.specs.Written.{word_text, name_text}
 use Rattle.tptp_lexer.proofs.Laws.{Any, NoWord, Gives, before, led, joined_led, open_parenthesis, close_parenthesis, open_bracket, close_bracket, comma, dot, equals, gap_after, blank_after, blank_before, lower_word, dollar_word}
 use Rattle.proof_text.proofs.SignPieces.{TildeEnds, tilde_alone, equal_alone, colon_alone}
-use Rattle.proof_text.specs.declared.citation.Citation as Citation
-use Rattle.proof_text.specs.declared.citation.Citation.TheVariants as citation
-use Rattle.proof_text.specs.declared.citation.Symbol as Symbol
-use Rattle.proof_text.specs.declared.citation.Symbol.TheVariants as symbol
+use Rattle.coherent_form.specs.declared.citation.Citation as Citation
+use Rattle.coherent_form.specs.declared.citation.Citation.TheVariants as citation
+use Rattle.coherent_form.specs.declared.citation.Symbol as Symbol
+use Rattle.coherent_form.specs.declared.citation.Symbol.TheVariants as symbol
 use Rattle.proof_text.specs.declared.body.Shown as Shown
 use Rattle.proof_text.specs.declared.body.Binding.{Binding}
 use Rattle.proof_text.specs.declared.body.ArgsText as ArgsText

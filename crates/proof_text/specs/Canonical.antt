@@ -4,10 +4,10 @@ use Rattle.std.specs.Prelude.{ℕ, zero, suc, ◌==◌, Bool, true, false, List,
 use Rattle.std.specs.Fmt.{decimal}
 use Rattle.text_core.specs.Names.{Text}
 use Rattle.tptp_lexer.specs.Written.{word_text, name_text, joined_texts}
-use Rattle.proof_text.specs.declared.citation.Citation as Citation
-use Rattle.proof_text.specs.declared.citation.Citation.TheVariants.{Axiom, Refl, Sym, Trans, Sub, No, Or}
-use Rattle.proof_text.specs.declared.citation.Symbol as Symbol
-use Rattle.proof_text.specs.declared.citation.Symbol.TheVariants.{Equality, Named as NamedSymbol}
+use Rattle.coherent_form.specs.declared.citation.Citation as Citation
+use Rattle.coherent_form.specs.declared.citation.Citation.TheVariants.{Axiom, Refl, Sym, Trans, Sub, No, Or}
+use Rattle.coherent_form.specs.declared.citation.Symbol as Symbol
+use Rattle.coherent_form.specs.declared.citation.Symbol.TheVariants.{Equality, Named as NamedSymbol}
 use Rattle.proof_text.specs.declared.body.NamedAtom.{NamedAtom}
 use Rattle.proof_text.specs.declared.body.Shown as Shown
 use Rattle.proof_text.specs.declared.body.Shown.TheVariants.{Falsum, Facts, Cases}

@@ -4,9 +4,9 @@ use Rattle.std.specs.Prelude.{ℕ, true, false, List, [], ◌∷◌, ◌++◌, O
 use Rattle.text_core.specs.Names.{Text}
 use Rattle.token_grammar.specs.Stacks.{top_or, below}
 use Rattle.tptp_lexer.specs.Tokens.{Token as LexToken}
-use Rattle.proof_text.specs.declared.citation.Citation as Citation
-use Rattle.proof_text.specs.declared.citation.Citation.TheVariants as citation
-use Rattle.proof_text.specs.declared.citation.Symbol.TheVariants as symbol
+use Rattle.coherent_form.specs.declared.citation.Citation as Citation
+use Rattle.coherent_form.specs.declared.citation.Citation.TheVariants as citation
+use Rattle.coherent_form.specs.declared.citation.Symbol.TheVariants as symbol
 use Rattle.proof_text.specs.declared.body.NamedAtom.{NamedAtom}
 use Rattle.proof_text.specs.declared.body.Shown as Shown
 use Rattle.proof_text.specs.declared.body.Shown.TheVariants as shown

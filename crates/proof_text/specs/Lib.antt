@@ -13,3 +13,7 @@ pub mod Scripts
 pub mod Told
 pub mod Canonical
 pub mod Named
+pub mod Branches
+pub mod StandsFor
+pub mod ScriptOf
+pub mod Showing

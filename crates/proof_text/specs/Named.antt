@@ -4,10 +4,10 @@ use Rattle.std.specs.Prelude.{◌≤◌, List, Option, Some, None}
 use Rattle.std.specs.List.{AllByRecursion}
 use Rattle.text_core.specs.Names.{Text}
 use Rattle.text_core.specs.NameTexts.{IsNameText}
-use Rattle.proof_text.specs.declared.citation.Citation as Citation
-use Rattle.proof_text.specs.declared.citation.Citation.TheVariants.{Axiom, Sub, No, Or}
-use Rattle.proof_text.specs.declared.citation.Symbol as Symbol
-use Rattle.proof_text.specs.declared.citation.Symbol.TheVariants.{Equality, Named as NamedSymbol}
+use Rattle.coherent_form.specs.declared.citation.Citation as Citation
+use Rattle.coherent_form.specs.declared.citation.Citation.TheVariants.{Axiom, Sub, No, Or}
+use Rattle.coherent_form.specs.declared.citation.Symbol as Symbol
+use Rattle.coherent_form.specs.declared.citation.Symbol.TheVariants.{Equality, Named as NamedSymbol}
 use Rattle.proof_text.specs.declared.body.NamedAtom.{NamedAtom}
 use Rattle.proof_text.specs.declared.body.Shown as Shown
 use Rattle.proof_text.specs.declared.body.Shown.TheVariants.{Falsum, Facts, Cases}

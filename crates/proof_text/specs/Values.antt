@@ -7,10 +7,10 @@ use Rattle.token_grammar.specs.Making.{Making}
 use Rattle.token_grammar.specs.Productions.{Makers, making_by}
 use Rattle.tptp_lexer.specs.Tokens.{Token as LexToken}
 use Rattle.tptp_lexer.specs.Columns.{names_of}
-use Rattle.proof_text.specs.declared.citation.Citation as Citation
-use Rattle.proof_text.specs.declared.citation.Citation.TheVariants as citation
-use Rattle.proof_text.specs.declared.citation.Symbol as Symbol
-use Rattle.proof_text.specs.declared.citation.Symbol.TheVariants as symbol
+use Rattle.coherent_form.specs.declared.citation.Citation as Citation
+use Rattle.coherent_form.specs.declared.citation.Citation.TheVariants as citation
+use Rattle.coherent_form.specs.declared.citation.Symbol as Symbol
+use Rattle.coherent_form.specs.declared.citation.Symbol.TheVariants as symbol
 use Rattle.proof_text.specs.declared.body.NamedAtom.{NamedAtom}
 use Rattle.proof_text.specs.declared.body.Shown as Shown
 use Rattle.proof_text.specs.declared.body.Shown.TheVariants as shown

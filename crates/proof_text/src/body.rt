@@ -1,7 +1,6 @@
 //! The parts of a script, as a proof text writes them: all that stands for an element is a name.
 
-use crate::citation::Citation;
-use crate::label::Label;
+use coherent_form::{Citation, Label};
 use text_core::{List, Name};
 
 /// An atom with the names of its elements. A `predicate` of `None` is equality, which has two

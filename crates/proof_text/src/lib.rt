@@ -4,19 +4,21 @@
 mod body;
 mod body_steps;
 mod builder;
-mod citation;
 mod cite_steps;
 mod fixed;
-mod label;
+mod given;
 mod law;
 mod limits;
 mod line_steps;
 mod line_text;
 mod mark;
 mod part;
+mod printed;
+mod proof_script;
 mod reader;
 mod refusal;
 mod script;
+mod step;
 mod step_text;
 mod store;
 mod watch;
@@ -24,16 +26,16 @@ mod writer;
 
 pub use body::{ArgsText, Binding, BodyText, CaseText, EndText, MpText, NamedAtom, Shown};
 pub use builder::{Frame, ScriptBuilder};
-pub use citation::{Citation, Symbol};
+pub use coherent_form::{Citation, Label, Symbol};
 pub use fixed::Fixed;
-pub use label::Label;
 pub use law::{
-    never_script_and_refusal, refusals_are_one, script_or_refusal, scripts_are_one,
-    scripts_are_proper,
+    never_script_and_refusal, proof_scripts_stand, refusals_are_one, script_or_refusal,
+    scripts_are_one, scripts_are_proper,
 };
 pub use limits::MOST_WITHIN;
 pub use mark::{Integer, Mark, Token};
 pub use part::{Act, Counting, Edition, Naming, Pass, Rule, Taker, TextPart};
+pub use proof_script::{script_of, second_of};
 pub use reader::read_script;
 pub use refusal::ScriptRefusal;
 pub use script::Script;

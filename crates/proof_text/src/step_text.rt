@@ -7,8 +7,8 @@ ghost use Rattle.proof_text.specs.Marks.{most_number};
 ghost use Rattle.proof_text.specs.Named.{ArgsAreNamed, BindIsNamed, CiteIsNamed, LineIsNamed, ShownIsNamed, StepIsNamed, SymbolIsNamed};
 
 use crate::body::{ArgsText, Binding, MpText, Shown};
-use crate::citation::{Citation, Symbol};
 use crate::line_text::{put_line, put_names, put_number};
+use coherent_form::{Citation, Symbol};
 use std::alloc::Global;
 use text_core::{Bytes, Memory};
 use tptp_lexer::{put_name, put_word};

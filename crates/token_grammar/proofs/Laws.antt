@@ -13,6 +13,9 @@ pub use Rattle.token_grammar.proofs.OfValues.{part_value, value_spelled}
 pub use Rattle.token_grammar.proofs.OneValue.{one_value}
 pub use Rattle.token_grammar.proofs.Telling.{seen_value}
 pub use Rattle.token_grammar.proofs.Refused.{refusals_agree, accepted_not_refused}
+pub use Rattle.token_grammar.proofs.Folding.{Shape, Fits, EachLeads, text_holds}
+pub use Rattle.token_grammar.proofs.Folding.Shape.{one, many}
+pub use Rattle.token_grammar.proofs.Becoming.{to, kept}
 pub use Rattle.token_grammar.proofs.Seeing.{sees_both, sees_apart, sees_keep}
 
 -- a result is a value or an error

@@ -21,8 +21,7 @@ use Rattle.tptp_grammar.specs.Parts.{is_kind}
 use Rattle.tptp_grammar.specs.Roles.{role_text}
 use Rattle.tptp_grammar.specs.Spells.{op_kind, SpellsTerm, SpellsVariables, SpellsFormula, SpellsRest, SpellsUnitary, IsGeneral, IsGeneralList, AreGenerals, IsData, IsAnnotation, SpellsSelection, SpellsItem, SpellsItems}
 use Rattle.tptp_lexer.specs.Spelling.{IsWord, IsNaming, SpellsName, SpellsVariable, SpellsMore}
-use Rattle.token_grammar.proofs.Folding.{Shape, Fits}
-use Rattle.token_grammar.proofs.Folding.Shape.{one, many}
+use Rattle.token_grammar.proofs.Laws.{Shape, Fits, one, many}
 use Rattle.tptp_grammar.proofs.Inversion.{Tells, kind_is, upper_is, word_is, name_is, plain_is}
 use Rattle.tptp_grammar.proofs.Keeping.{keeps}
 

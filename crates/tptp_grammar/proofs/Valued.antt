@@ -33,7 +33,7 @@ use Rattle.tptp_grammar.specs.Spells.IsGeneralList.{empty_list, whole_list}
 use Rattle.tptp_grammar.specs.Spells.AreGenerals.{no_general, next_general}
 use Rattle.tptp_grammar.specs.Spells.IsData.{plain, word_alone, word_with}
 use Rattle.tptp_grammar.specs.Spells.IsAnnotation.{no_annotation, source_alone, source_with}
-use Rattle.token_grammar.proofs.Folding.{EachLeads, text_holds}
+use Rattle.token_grammar.proofs.Laws.{EachLeads, text_holds}
 use Rattle.tptp_grammar.proofs.Shapes.{IsLowerWord, EndsItem, Closes, EndsAtom, shape_of, token_fits}
 use Rattle.tptp_grammar.proofs.Inversion.{mark_tells}
 use Rattle.tptp_grammar.proofs.Keeping.{kept_items, kept_text}

@@ -8,7 +8,7 @@ use Rattle.token_grammar.specs.Grammar.{Spelled}
 use Rattle.token_grammar.specs.Plan.{is_empty}
 use Rattle.token_grammar.specs.Factored.{Translates, AlternativesAreMade}
 use Rattle.token_grammar.specs.Factored.Becomes.{done, keep}
-use Rattle.token_grammar.proofs.Becoming.{to, kept}
+use Rattle.token_grammar.proofs.Laws.{to, kept}
 use Rattle.tptp_lexer.specs.declared.kind.Kind.TheVariants as kind
 use Rattle.tptp_grammar.specs.declared.mark.Mark.{Mark}
 use Rattle.tptp_grammar.specs.declared.item_part.ItemPart.{ItemPart}

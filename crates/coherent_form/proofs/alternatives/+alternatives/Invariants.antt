@@ -1,4 +1,4 @@
-use Rattle.std.proofs.Common.{◌≡◌, length, take}
+use Rattle.std.proofs.Common.{◌≡◌, take}
 use Rattle.coherent_form.specs.Each.{choices_in, offers_in}
 use Rattle.coherent_form.proofs.alternatives.+alternatives.Given as goal
 

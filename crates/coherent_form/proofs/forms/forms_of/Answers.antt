@@ -1,5 +1,5 @@
 use Rattle.std.proofs.Common.{rules, ◌≡◌, Err}
-use Rattle.coherent_form.proofs.Laws.{exact_refused_as}
+use Rattle.coherent_form.proofs.OneReading.{exact_refused_as}
 use Rattle.coherent_form.proofs.forms.forms_of.Goals as goal
 
 pub returns-in_err-check-clause-exact : goal.returns-in_err-check-clause-exact

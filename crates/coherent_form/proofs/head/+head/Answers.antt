@@ -1,4 +1,4 @@
-use Rattle.std.proofs.Common.{◌++◌, length, ap, sym, ◌∙◌}
+use Rattle.std.proofs.Common.{length, ap, sym, ◌∙◌}
 use Rattle.coherent_form.specs.Each.{head_in}
 use Rattle.coherent_form.specs.Reading.{head_joined, head_of}
 use Rattle.coherent_form.proofs.Opened.{head_of-Or, exists_head, head_in_more}

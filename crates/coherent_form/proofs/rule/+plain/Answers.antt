@@ -1,5 +1,4 @@
 use Rattle.std.proofs.Common.{sym, ◌∙◌}
-use Rattle.text_core.proofs.Laws.{not_true}
 use Rattle.coherent_form.proofs.Opened.{one_not_plain, more_plain}
 use Rattle.coherent_form.proofs.rule.+plain.Goals as goal
 

@@ -1,4 +1,4 @@
-use Rattle.std.proofs.Common.{◌≡◌, ◌++◌, map, ap, ◌∙◌, append_assoc}
+use Rattle.std.proofs.Common.{◌≡◌, ◌++◌, map, ap, ◌∙◌}
 use Rattle.coherent_form.specs.Reading.{atom_moved}
 use Rattle.coherent_form.proofs.Joining.{atoms_stay, guarded_form}
 use Rattle.coherent_form.proofs.rule.form_guarded.Goals as goal

@@ -1,5 +1,5 @@
 use Rattle.std.proofs.Common.{ap, ◌∙◌}
-use Rattle.coherent_form.specs.Surveys.{account_of, members_of, members_more, negation_account, arguments_of, conjunction_account, disjunction_account, universal_account, existential_account, binary_account}
+use Rattle.coherent_form.specs.Surveys.{account_of, members_of, members_more, negation_account, conjunction_account, disjunction_account, universal_account, existential_account, binary_account}
 use Rattle.coherent_form.proofs.Steps.{state_more}
 use Rattle.coherent_form.proofs.Surveying.{members_of-more, told_Not, told_And, told_Or, told_Binary, told_ForAll, told_Exists}
 use Rattle.coherent_form.proofs.survey.+accounts.Goals as goal
