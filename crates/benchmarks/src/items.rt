@@ -13,7 +13,7 @@ const TURNS: u32 = 5;
 const MOST: usize = 1 << 31;
 
 /// The number of items, and 0 where the bytes are no text of items.
-fn items(rt: &HostRuntime, bytes: &[u8]) -> usize {
+pub(crate) fn items(rt: &HostRuntime, bytes: &[u8]) -> usize {
     if bytes.len() > MOST {
         return 0;
     }

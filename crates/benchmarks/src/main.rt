@@ -1,6 +1,6 @@
 //! Programs that the scripts of bench/ time, one for each word: `tokens FILE..`, `items FILE..`,
-//! `scripts FILE..`, `trees [ROUNDS]`, `grammar [time]` and `facts [FACTS [FILLS [FINDS]]]`. Other
-//! words give 64 and the list of these.
+//! `scripts FILE..`, `tasks TURNS FILE..`, `trees [ROUNDS]`, `grammar [time]` and
+//! `facts [FACTS [FILLS [FINDS]]]`. Other words give 64 and the list of these.
 #![tactic(auto)]
 
 use anyhow::Error;
@@ -11,6 +11,7 @@ mod facts;
 mod grammar;
 mod items;
 mod scripts;
+mod tasks;
 mod timing;
 mod tokens;
 mod trees;
@@ -32,6 +33,7 @@ fn run(rt: &HostRuntime, name: &str, words: &[String]) -> Result<ExitCode, Error
         "tokens" => tokens::run(rt, words)?,
         "items" => items::run(rt, words)?,
         "scripts" => scripts::run(rt, words)?,
+        "tasks" => tasks::run(rt, words)?,
         "trees" => trees::run(rt, words)?,
         "grammar" => grammar::run(rt, words)?,
         "facts" => facts::run(rt, words)?,
@@ -51,7 +53,7 @@ fn number(words: &[String], place: usize) -> Result<u32, Error> {
 /// Tells the words on standard error.
 fn usage(rt: &HostRuntime) -> Result<ExitCode, Error> {
     eprintln!(rt;
-        "usage: benchmarks tokens FILE.. | items FILE.. | scripts FILE.. | trees [ROUNDS] | grammar [time] | facts [FACTS [FILLS [FINDS]]]"
+        "usage: benchmarks tokens FILE.. | items FILE.. | scripts FILE.. | tasks TURNS FILE.. | trees [ROUNDS] | grammar [time] | facts [FACTS [FILLS [FINDS]]]"
     )?;
     Ok(ExitCode::from(USAGE))
 }

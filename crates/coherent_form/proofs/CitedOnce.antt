@@ -1,5 +1,5 @@
 -- No two forms of a problem's task are cited in the same way: ranks under one name go on, and built-in axioms differ.
-use Rattle.std.proofs.Common.{◌≡◌, ℕ, zero, suc, ◌+◌, ◌<◌, ◌≤◌, Bool, true, false, cond, if◌then◌else◌, List, [], ◌∷◌, ◌++◌, map, length, slice_get, Some, refl, ap, sym, subst, ◌∙◌, arith}
+use Rattle.std.proofs.Common.{◌≡◌, ℕ, zero, suc, ◌+◌, ◌≤◌, Bool, true, false, if◌then◌else◌, List, [], ◌∷◌, ◌++◌, map, length, slice_get, Some, refl, ap, sym, subst, ◌∙◌, arith}
 use Rattle.std.proofs.lemmas.Map.Keys.{IsDistinct-push}
 use Rattle.std.proofs.lemmas.Slice.Eq.{bytes_eq-Decides}
 use Rattle.std.proofs.lemmas.Cmp.{nat_eq_equiv, nat_list_eq_equiv}
@@ -23,7 +23,7 @@ use Rattle.coherent_form.specs.Citing.{source_cited}
 use Rattle.coherent_form.specs.Kept.{BuiltInIsThere}
 use Rattle.coherent_form.specs.Labels.{how_many}
 use Rattle.coherent_form.specs.Reading.{with_term, with_terms, with_predicate, with_names, with_names_of}
-use Rattle.coherent_form.specs.Tasks.{CitedTask, Progress, nothing_read, is_conjecture, no_goal, is_named, further, forms_behind, after_formula, after_formulas, task_of, IsTaskOf}
+use Rattle.coherent_form.specs.Tasks.{CitedTask, Progress, nothing_read, no_goal, is_named, further, forms_behind, after_formula, after_formulas, task_of, IsTaskOf}
 use Rattle.coherent_form.specs.declared.citation.Citation.{Citation}
 use Rattle.coherent_form.specs.declared.citation.Citation.TheVariants as cite
 use Rattle.coherent_form.specs.declared.source.BuiltIn.{BuiltIn}

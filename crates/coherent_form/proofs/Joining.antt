@@ -123,6 +123,17 @@ nothing_each n (a ∷ rest) = λ i. nothing_alternative n a i ∷ nothing_each n
 pub nothing_joined : (n : ℕ) (alternatives : List Alternative) → alternatives_joined n (nothing ∷ []) alternatives ≡ alternatives
 nothing_joined n alternatives = append-nil (map (alternative_joined n nothing) alternatives) ∙ nothing_each n alternatives
 
+-- an alternative behind one that has no variables
+pub preceded_alternative : (n : ℕ) (a b : Alternative) (atoms : List Atom) → a.variables ≡ 0 → atoms ≡ a.atoms ++ b.atoms
+    → record { variables = b.variables; atoms = atoms } ≡ alternative_joined n a b
+preceded_alternative n a b atoms none is = λ i. record { variables = count i; atoms = whole i }
+  where
+    count : b.variables ≡ a.variables + b.variables
+    count = omega arith
+
+    whole : atoms ≡ a.atoms ++ map (atom_moved n a.variables) b.atoms
+    whole = is ∙ ap (λ (rest : List Atom). a.atoms ++ rest) (sym (atoms_stay n b.atoms) ∙ ap (λ (k : ℕ). map (atom_moved n k) b.atoms) (sym none))
+
 -- two alternatives in front of each of some others
 each_joined : (n : ℕ) (a b : Alternative) (cs : List Alternative) → map (alternative_joined n (alternative_joined n a b)) cs ≡ map (alternative_joined n a) (map (alternative_joined n b) cs)
 each_joined n a b [] = refl

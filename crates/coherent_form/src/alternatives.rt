@@ -101,8 +101,47 @@ fn product(
     Ok(all)
 }
 
-/// Every choice of an alternative from each of two lists. What stands is not copied where one list
-/// has a single alternative.
+/// One alternative that has no variables, and then each of some others. What stands in them is not
+/// copied.
+fn each_preceded(
+    alloc: Global,
+    scope: u32,
+    first: &Alternative,
+    seconds: List<Alternative>,
+) -> Result<List<Alternative>, Memory>
+    requires { first.now.variables ≡ 0 }
+    ensures { IfOk result (λ all. all ≡ map (alternative_joined scope first.now) seconds) }
+{
+    let mut all = List::new(alloc);
+    for second in seconds.into_vec() {
+        let mut atoms = List::new(alloc);
+        push_moved(alloc, scope, 0, first.atoms.as_slice(), &mut atoms)?;
+        atoms.append(second.atoms)?;
+        all.push(Alternative {
+            variables: second.variables,
+            atoms,
+        })?;
+    }
+    Ok(all)
+}
+
+/// Each of some alternatives and then each of others.
+fn each_by_each(
+    alloc: Global,
+    scope: u32,
+    firsts: &[Alternative],
+    seconds: List<Alternative>,
+) -> Result<List<Alternative>, Memory>
+    ensures { IfOk result (λ all. all ≡ alternatives_joined scope firsts.now seconds) }
+{
+    match firsts {
+        [first] if first.variables == 0 => each_preceded(alloc, scope, first, seconds),
+        _ => product(alloc, scope, firsts, seconds.as_slice()),
+    }
+}
+
+/// Every choice of an alternative from each of two lists. What stands is not copied where the second
+/// list has a single alternative, or the first one has and it has no variables.
 fn joined(
     alloc: Global,
     scope: u32,
@@ -119,7 +158,7 @@ fn joined(
     }
     match seconds.as_slice() {
         [second] => each_followed(alloc, scope, firsts, second),
-        _ => product(alloc, scope, firsts.as_slice(), seconds.as_slice()),
+        _ => each_by_each(alloc, scope, firsts.as_slice(), seconds),
     }
 }
 

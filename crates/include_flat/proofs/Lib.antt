@@ -8,4 +8,5 @@ pub mod Opening
 pub mod Passing
 pub mod Alike
 pub mod Flat
+pub mod KeptAllowed
 pub mod Laws

@@ -2,14 +2,16 @@
 -- task, the second file, and its bytes. At each stage there is one way on.
 use Rattle.std.specs.Prelude.{◌≢◌, IfSome, IsSomeAnd}
 use Rattle.std.specs.FinMap as finite
-use Rattle.std.proofs.Common.{◌≡◌, ◌⊎◌, ◌≤◌, ◌<◌, inl, inr, ℕ, Bool, true, false, List, [], ◌++◌, length, Option, Some, None, refl, sym, ap, subst, ◌∙◌, arith}
+use Rattle.std.proofs.Common.{◌≡◌, ◌⊎◌, ◌≤◌, ◌<◌, inl, inr, ℕ, Bool, true, false, List, ◌++◌, length, Option, Some, None, refl, sym, ap, subst, ◌∙◌, arith}
 use Rattle.text_core.specs.declared.limits.TheConstants.{MOST_FILE_BYTES}
 use Rattle.text_core.specs.Names.{Text}
 use Rattle.text_core.proofs.Laws.{value_same}
 use Rattle.logic_core.specs.declared.problem.Fof.{Fof}
+use Rattle.vernacular_tree.specs.declared.tree.Body.{Body}
+use Rattle.vernacular_tree.specs.Sizes.{size}
 use Rattle.io_core.specs.Held.{Held}
 use Rattle.io_core.specs.Known.{Known}
-use Rattle.io_core.specs.Fetched.{IsLong, Holds}
+use Rattle.io_core.specs.Fetched.{IsLong}
 use Rattle.tptp_printer.specs.Canonical.{problem_text}
 use Rattle.include_flat.specs.declared.refusal.FlatWhy.{FlatWhy}
 use Rattle.include_flat.specs.Flattened.{IsFlat}
@@ -17,17 +19,20 @@ use Rattle.include_flat.specs.Refusals.{IsFlatRefused}
 use Rattle.include_flat.proofs.Laws.{one_list, never_both, one_refusal}
 use Rattle.coherent_form.specs.declared.task_refusal.TaskRefusal.{TaskRefusal}
 use Rattle.coherent_form.specs.Tasks.{CitedTask, IsTaskOf, IsTaskFault}
-use Rattle.coherent_form.proofs.Laws.{one_task_refusal, task_not_refused}
-use Rattle.proof_checker.specs.declared.ground.GroundFormula.{GroundFormula}
-use Rattle.proof_checker.specs.declared.check.FirstRefusal.{FirstRefusal}
-use Rattle.proof_checker.specs.declared.check.FirstRefusal.TheVariants as first
-use Rattle.proof_checker.specs.Ground.{IsGroundProblem}
-use Rattle.proof_checker.specs.Accepted.{AcceptsWith, IsRefusedAs}
-use Rattle.proof_checker.proofs.Laws as checker
-use Rattle.larus_cli.specs.Words.{command_of, names_in, NamesBoth}
-use Rattle.larus_cli.specs.Texts.{accepted_text, refused_text, usage_text, lexical_text, not_built_text, too_long_text, flat_text, formula_text}
-use Rattle.larus_cli.specs.Done.{ReadsTask, ReadsGround, Done, accepted, converted}
-use Rattle.larus_cli.specs.Answers.{Answer, done, refused, problem_refused, formula_refused, too_long, not_ground, no_tokens, no_proof, usage, fault}
+use Rattle.coherent_form.proofs.Laws.{cited_once, one_task, one_task_refusal, task_not_refused}
+use Rattle.proof_text.specs.declared.refusal.ScriptRefusal.{ScriptRefusal}
+use Rattle.proof_text.specs.Values.{Written}
+use Rattle.proof_text.specs.Scripts.{IsScriptOf, ProofFault}
+use Rattle.proof_text.proofs.Laws.{scripts_same, refusals_same, script_not_refused}
+use Rattle.proof_checker.specs.declared.refusal.StepRefusal.{StepRefusal}
+use Rattle.proof_checker.specs.Accepted.{IsAcceptedAs}
+use Rattle.proof_text.specs.StandsFor.{AreCitedOnce}
+use Rattle.proof_checker.specs.Faults.{IsFault}
+use Rattle.proof_checker.proofs.Laws.{accepted_one, fault_one, accepted_none}
+use Rattle.larus_cli.specs.Words.{command_of, check_words, names_in, NamesBoth}
+use Rattle.larus_cli.specs.Texts.{accepted_text, usage_text, too_long_text, flat_text, formula_text, script_text, step_text}
+use Rattle.larus_cli.specs.Done.{ReadsTask, ReadsBytes, ReadsScript, Done, accepted, converted}
+use Rattle.larus_cli.specs.Answers.{Answer, done, step_refused, problem_refused, formula_refused, too_long, proof_refused, usage, fault}
 use Rattle.larus_cli.specs.Outcome.{Sinks, PutsTo, Outcome, answered, broken, out_of_memory, IsSettled, EndAlike}
 use Rattle.larus_cli.proofs.Saying.{names_check}
 use Rattle.larus_cli.proofs.Outcomes.{names_some}
@@ -46,49 +51,40 @@ on_output text status = record { output = true; text = text; status = status }
 abbrev on_errors : Text → ℕ → End
 on_errors text status = record { output = false; text = text; status = status }
 
--- the end of a proof that is not accepted
-abbrev refused_end : Text → FirstRefusal → End
-refused_end name (first.Lexical refusal) = on_errors (name ++ lexical_text refusal) 3
-refused_end name first.NotBuilt = on_errors (name ++ not_built_text) 3
-refused_end name first.Refused = on_output refused_text 1
-refused_end name first.Memory = on_errors [] 71
+-- by the script that the bytes of the second file spell
+abbrev OnScript : CitedTask → End → Written → Type 0
+OnScript task end script = ((body : Body) × IsAcceptedAs task script body × (end ≡ on_output (accepted_text (size body)) 0)) ⊎
+    ((refusal : StepRefusal) × IsFault task script refusal × (end ≡ on_output (step_text refusal) 1))
+
+-- two ends by the script are one
+one_by_script : (task : CitedTask) (script : Written) (a b : End) → AreCitedOnce task → OnScript task a script → OnScript task b script → a ≡ b
+one_by_script task script a b once (inl (body, is, e)) (inl (other, also, f)) =
+    e ∙ ap (λ tree. on_output (accepted_text (size tree)) 0) (accepted_one task once script body other is also) ∙ sym f
+one_by_script task script a b once (inl (body, is, e)) (inr (refusal, because, f)) = absurd (accepted_none task once script body refusal is because)
+one_by_script task script a b once (inr (refusal, because, e)) (inl (body, is, f)) = absurd (accepted_none task once script body refusal is because)
+one_by_script task script a b once (inr (refusal, is, e)) (inr (other, also, f)) =
+    e ∙ ap (λ r. on_output (step_text r) 1) (fault_one task once script refusal other is also) ∙ sym f
 
 -- by the bytes of the second file
-abbrev OnBytes : Text → List GroundFormula → End → Text → Type 0
-OnBytes name formulas end bytes = ((size : ℕ) × AcceptsWith formulas bytes size × (end ≡ on_output (accepted_text size) 0)) ⊎
-    ((why : FirstRefusal) × IsRefusedAs formulas bytes why × (why ≢ first.Memory) × (end ≡ refused_end name why))
+abbrev OnBytes : Text → CitedTask → End → Text → Type 0
+OnBytes name task end bytes = ((refusal : ScriptRefusal) × ProofFault bytes refusal × (end ≡ on_errors (name ++ script_text refusal) 3)) ⊎
+    ((script : Written) × IsScriptOf bytes script × OnScript task end script)
 
 -- two ends by the bytes of the second file are one
-one_by_bytes : (name : Text) (formulas : List GroundFormula) (bytes : Text) (a b : End) → OnBytes name formulas a bytes →
-    OnBytes name formulas b bytes → a ≡ b
-one_by_bytes name formulas bytes a b (inl (m, is, e)) (inl (n, also, f)) =
-    e ∙ ap (λ size. on_output (accepted_text size) 0) (checker.one_size formulas bytes m n is also) ∙ sym f
-one_by_bytes name formulas bytes a b (inl (m, is, e)) (inr (why, also, some, f)) =
-    absurd (checker.never_both formulas bytes m why is some also)
-one_by_bytes name formulas bytes a b (inr (why, also, some, e)) (inl (m, is, f)) =
-    absurd (checker.never_both formulas bytes m why is some also)
-one_by_bytes name formulas bytes a b (inr (why, is, some, e)) (inr (reason, also, other, f)) =
-    e ∙ ap (refused_end name) (checker.one_refusal formulas bytes why reason is some also other) ∙ sym f
-
--- by the bytes of the second file and the formulas of the problem, which may be ground
-abbrev OnProof : Text → List Fof → End → Text → Type 0
-OnProof name flat end bytes =
-    (((formulas : List GroundFormula) → IsGroundProblem flat formulas → ⊥) × (end ≡ on_errors (name ++ not_built_text) 3)) ⊎
-    ((formulas : List GroundFormula) × IsGroundProblem flat formulas × OnBytes name formulas end bytes)
-
--- two ends by these are one
-one_by_proof : (name : Text) (flat : List Fof) (bytes : Text) (a b : End) → OnProof name flat a bytes → OnProof name flat b bytes → a ≡ b
-one_by_proof name flat bytes a b (inl (none, e)) (inl (also, f)) = e ∙ sym f
-one_by_proof name flat bytes a b (inl (none, e)) (inr (formulas, are, f)) = absurd (none formulas are)
-one_by_proof name flat bytes a b (inr (formulas, are, e)) (inl (none, f)) = absurd (none formulas are)
-one_by_proof name flat bytes a b (inr (formulas, are, e)) (inr (others, also, f)) =
-    one_by_bytes name formulas bytes a b e (subst (λ gs. OnBytes name gs b bytes) (checker.one_ground flat others formulas also are) f)
+one_by_bytes : (name : Text) (task : CitedTask) (bytes : Text) (a b : End) → AreCitedOnce task → OnBytes name task a bytes →
+    OnBytes name task b bytes → a ≡ b
+one_by_bytes name task bytes a b once (inl (refusal, is, e)) (inl (other, also, f)) =
+    e ∙ ap (λ r. on_errors (name ++ script_text r) 3) (refusals_same bytes refusal other is also) ∙ sym f
+one_by_bytes name task bytes a b once (inl (refusal, because, e)) (inr (script, is, f)) = absurd (script_not_refused bytes script refusal is because)
+one_by_bytes name task bytes a b once (inr (script, is, e)) (inl (refusal, because, f)) = absurd (script_not_refused bytes script refusal is because)
+one_by_bytes name task bytes a b once (inr (script, is, e)) (inr (other, also, f)) =
+    one_by_script task script a b once e (subst (OnScript task b) (scripts_same bytes other script also is) f)
 
 module _ (held : Held) where
   -- by the second file
-  abbrev OnSecond : Text → List Fof → End → Type 0
-  OnSecond name flat end = (IsLong held name MOST_FILE_BYTES × (end ≡ on_errors (name ++ too_long_text) 3)) ⊎
-      ((bytes : Text) × (finite.get held name ≡ Some bytes) × (length bytes ≤ MOST_FILE_BYTES) × OnProof name flat end bytes)
+  abbrev OnSecond : Text → End → CitedTask → Type 0
+  OnSecond name end task = (IsLong held name MOST_FILE_BYTES × (end ≡ on_errors (name ++ too_long_text) 3)) ⊎
+      ((bytes : Text) × (finite.get held name ≡ Some bytes) × (length bytes ≤ MOST_FILE_BYTES) × OnBytes name task end bytes)
 
   -- no file is both too long and within the bound
   not_long : (name bytes : Text) → IsLong held name MOST_FILE_BYTES → finite.get held name ≡ Some bytes → length bytes ≤ MOST_FILE_BYTES → ⊥
@@ -96,17 +92,17 @@ module _ (held : Held) where
       let more = subst (λ o. IsSomeAnd o (λ (bs : Text). MOST_FILE_BYTES < length bs)) get long in absurd (omega arith)
 
   -- two ends by the second file are one
-  one_by_second : (name : Text) (flat : List Fof) (a b : End) → OnSecond name flat a → OnSecond name flat b → a ≡ b
-  one_by_second name flat a b (inl (long, e)) (inl (also, f)) = e ∙ sym f
-  one_by_second name flat a b (inl (long, e)) (inr (bytes, get, within, f)) = absurd (not_long name bytes long get within)
-  one_by_second name flat a b (inr (bytes, get, within, e)) (inl (long, f)) = absurd (not_long name bytes long get within)
-  one_by_second name flat a b (inr (bytes, get, within, e)) (inr (others, also, within', f)) =
-      one_by_proof name flat bytes a b e (subst (OnProof name flat b) (value_same (sym also ∙ get)) f)
+  one_by_second : (name : Text) (task : CitedTask) (a b : End) → AreCitedOnce task → OnSecond name a task → OnSecond name b task → a ≡ b
+  one_by_second name task a b once (inl (long, e)) (inl (also, f)) = e ∙ sym f
+  one_by_second name task a b once (inl (long, e)) (inr (bytes, get, within, f)) = absurd (not_long name bytes long get within)
+  one_by_second name task a b once (inr (bytes, get, within, e)) (inl (long, f)) = absurd (not_long name bytes long get within)
+  one_by_second name task a b once (inr (bytes, get, within, e)) (inr (others, also, within', f)) =
+      one_by_bytes name task bytes a b once e (subst (OnBytes name task b) (value_same (sym also ∙ get)) f)
 
   -- by the task of the problem
   abbrev OnTask : Text → List Fof → End → Type 0
   OnTask name flat end = ((refusal : TaskRefusal) × IsTaskFault flat refusal × (end ≡ on_errors (formula_text refusal) 2)) ⊎
-      ((task : CitedTask) × IsTaskOf flat task × OnSecond name flat end)
+      ((task : CitedTask) × IsTaskOf flat task × OnSecond name end task)
 
   -- two ends by the task of the problem are one
   one_by_task : (name : Text) (flat : List Fof) (a b : End) → OnTask name flat a → OnTask name flat b → a ≡ b
@@ -114,7 +110,8 @@ module _ (held : Held) where
       e ∙ ap (λ r. on_errors (formula_text r) 2) (one_task_refusal flat refusal other is also) ∙ sym f
   one_by_task name flat a b (inl (refusal, is, e)) (inr (task, has, f)) = absurd (task_not_refused flat task refusal has is)
   one_by_task name flat a b (inr (task, has, e)) (inl (refusal, is, f)) = absurd (task_not_refused flat task refusal has is)
-  one_by_task name flat a b (inr (task, has, e)) (inr (other, also, f)) = one_by_second name flat a b e f
+  one_by_task name flat a b (inr (task, has, e)) (inr (other, also, f)) =
+      one_by_second name task a b (cited_once flat task has) e (subst (OnSecond name b) (one_task flat other task also has) f)
 
   -- by the formulas of the problem; a command with a second file wants their task
   abbrev OnFormulas : Option Text → End → List Fof → Type 0
@@ -162,27 +159,26 @@ module _ (held : Held) where
     here P is = subst (λ o. IfSome o P) told is
 
     -- an end by the second file of words that name it, where the problem has a task
-    by_task : (problem name : Text) (flat : List Fof) (task : CitedTask) (end : End) → NamesBoth words problem name →
-        ReadsTask files problem flat task → OnSecond name flat end → OnWords words end
-    by_task problem name flat task end names read is =
-        inr (problem, Some name, names, inr (flat, here (λ h. IsFlat h problem flat) read.reads, inr (task, read.has, is)))
+    by_task : (problem name : Text) (task : CitedTask) (end : End) → NamesBoth words problem name →
+        ReadsTask files problem task → OnSecond name end task → OnWords words end
+    by_task problem name task end names read is =
+        inr (problem, Some name, names, inr (read.formulas, here (λ h. IsFlat h problem read.formulas) read.reads, inr (task, read.has, is)))
 
     -- an end by the bytes of that file
-    by_proof : (problem name bytes : Text) (flat : List Fof) (task : CitedTask) (end : End) → NamesBoth words problem name →
-        ReadsTask files problem flat task → Holds files name bytes MOST_FILE_BYTES → OnProof name flat end bytes → OnWords words end
-    by_proof problem name bytes flat task end names read holds is = by_task problem name flat task end names read
-        (inr (bytes, here (λ h. finite.get h name ≡ Some bytes) holds.held, holds.within, is))
+    by_bytes : (problem name bytes : Text) (task : CitedTask) (end : End) → NamesBoth words problem name →
+        ReadsBytes files problem name task bytes → OnBytes name task end bytes → OnWords words end
+    by_bytes problem name bytes task end names read is = by_task problem name task end names read.reads
+        (inr (bytes, here (λ h. finite.get h name ≡ Some bytes) read.holds.held, read.holds.within, is))
 
-    -- an end by these bytes, where the problem is ground
-    by_bytes : (problem name bytes : Text) (formulas : List GroundFormula) (end : End) → NamesBoth words problem name →
-        ReadsGround files problem formulas → Holds files name bytes MOST_FILE_BYTES → OnBytes name formulas end bytes → OnWords words end
-    by_bytes problem name bytes formulas end names reads holds is =
-        by_proof problem name bytes reads.flat reads.task end names reads.read holds (inr (formulas, reads.are, is))
+    -- an end by the script that they spell
+    by_script : (problem proof : Text) (task : CitedTask) (script : Written) (end : End) → words ≡ check_words problem proof →
+        ReadsScript files problem proof task script → OnScript task end script → OnWords words end
+    by_script problem proof task script end are read is =
+        by_bytes problem proof read.bytes task end (names_check words problem proof are) read.reads (inr (script, read.spells, is))
 
     -- what is done is an end by the words, on the output with status 0
     by_done : (text : Text) → Done words files text → OnWords words (on_output text 0)
-    by_done _ (accepted problem proof bytes formulas size are reads holds is) =
-        by_bytes problem proof bytes formulas _ (names_check words problem proof are) reads holds (inl (size, is, refl))
+    by_done _ (accepted problem proof task script body are reads is) = by_script problem proof task script _ are reads (inl (body, is, refl))
     by_done _ (converted problem text formulas are reads is back) =
         let names = subst (λ ws. names_in (command_of ws) ws ≡ Some (problem, None)) (sym are) refl in
         inr (problem, None, names, inr (formulas, here (λ h. IsFlat h problem formulas) reads, ap (λ t. on_output t 0) is))
@@ -191,20 +187,15 @@ module _ (held : Held) where
     by_row : {output : Bool} {text : Text} {status : ℕ} → Answer words files later output text status → status ≢ 66 →
         OnWords words (record { output = output; text = text; status = status })
     by_row (done text row) some = by_done text row
-    by_row (refused problem proof bytes formulas are reads holds is) some =
-        by_bytes problem proof bytes formulas _ (names_check words problem proof are) reads holds (inr (first.Refused, is, (λ e. cc), refl))
+    by_row (step_refused problem proof task script refusal are reads is) some = by_script problem proof task script _ are reads (inr (refusal, is, refl))
     by_row (problem_refused problem file why names is inner) some =
         inr (problem, names.0, names.1, inl (file, why, here (λ h. IsFlatRefused h problem file why) is, refl))
     by_row (formula_refused problem second formulas refusal names reads is) some =
         inr (problem, Some second, names, inr (formulas, here (λ h. IsFlat h problem formulas) reads, inl (refusal, is, refl)))
-    by_row (too_long problem second formulas task names read long) some =
-        by_task problem second formulas task _ names read (inl (here (λ h. IsLong h second MOST_FILE_BYTES) long, refl))
-    by_row (not_ground problem second bytes formulas task names read holds is) some =
-        by_proof problem second bytes formulas task _ names read holds (inl (is, refl))
-    by_row (no_tokens problem second bytes formulas refusal names reads holds is) some =
-        by_bytes problem second bytes formulas _ names reads holds (inr (first.Lexical refusal, is, (λ e. cc), refl))
-    by_row (no_proof problem second bytes formulas names reads holds is) some =
-        by_bytes problem second bytes formulas _ names reads holds (inr (first.NotBuilt, is, (λ e. cc), refl))
+    by_row (too_long problem second task names read long) some =
+        by_task problem second task _ names read (inl (here (λ h. IsLong h second MOST_FILE_BYTES) long, refl))
+    by_row (proof_refused problem second task bytes refusal names read is) some =
+        by_bytes problem second bytes task _ names read (inl (refusal, is, refl))
     by_row (usage none) some = inl (none, refl)
     by_row (fault file asked fails) some = absurd (some refl)
 

@@ -1,25 +1,26 @@
 -- What the outcome of a run says of its status.
 use Rattle.std.specs.Prelude.{IfSome}
-use Rattle.std.proofs.Common.{◌≡◌, ◌⊎◌, inl, inr, ℕ, Bool, true, false, List, map, length, Option, Some, None, refl, sym, subst, arith}
+use Rattle.std.specs.List.{AllByRecursion}
+use Rattle.std.proofs.Common.{◌≡◌, ◌⊎◌, inl, inr, ℕ, Bool, true, false, List, Option, Some, None, refl, sym, subst, arith}
 use Rattle.text_core.specs.Names.{Text}
+use Rattle.logic_core.specs.Allowed.{FofIsAllowed}
 use Rattle.logic_core.specs.Truth.{Structure}
 use Rattle.logic_core.specs.Problems.{Follows}
 use Rattle.logic_core.specs.declared.problem.Fof.{Fof}
+use Rattle.vernacular_tree.specs.Rules.{Proves}
 use Rattle.vernacular_tree.specs.declared.tree.Body.{Body}
 use Rattle.io_core.specs.Held.{Held}
 use Rattle.io_core.specs.Known.{Known}
 use Rattle.io_core.specs.Stream.{Stream, Puts, Breaks}
 use Rattle.include_flat.specs.Flattened.{IsFlat}
-use Rattle.proof_checker.specs.declared.ground.GroundFormula.{GroundFormula}
-use Rattle.proof_checker.specs.declared.ground.CitedFact.{CitedFact}
-use Rattle.proof_checker.specs.Ground.{fof_of, goals_of}
-use Rattle.proof_checker.specs.Accepted.{IsAccepted}
+use Rattle.include_flat.proofs.Laws.{flat_allowed}
+use Rattle.coherent_form.specs.Tasks.{CitedTask, IsTaskOf, proof_task}
 use Rattle.larus_cli.specs.Words.{command_of, check_words, convert_words, names_in}
 use Rattle.larus_cli.specs.Done.{Done, accepted, converted}
 use Rattle.larus_cli.specs.Follows.{ProblemFollows}
 use Rattle.larus_cli.specs.Printed.{ReadsBack, ProblemPrinted}
-use Rattle.larus_cli.specs.Answers.{IsAsked, of_problem, as_second, Answer, done, refused, problem_refused, formula_refused}
-use Rattle.larus_cli.specs.Answers.{too_long, not_ground, no_tokens, no_proof, usage, fault}
+use Rattle.larus_cli.specs.Answers.{IsAsked, of_problem, as_second, Answer, done, step_refused, problem_refused, formula_refused}
+use Rattle.larus_cli.specs.Answers.{too_long, proof_refused, usage, fault}
 use Rattle.larus_cli.specs.Outcome.{Sinks, sinks, PutsTo, Outcome, answered, broken, out_of_memory}
 
 -- an answer with status 0 goes to the output, and the command is done
@@ -36,16 +37,16 @@ done_of {old = old} {new = new} (answered output text status row put) e =
     (text, k.1, (subst (λ o. PutsTo o old new text) k.0 put).0)
 done_of outcome e = absurd (omega arith)
 
--- what is accepted follows
+-- the conjecture follows where the task of a problem is proved
 abbrev Law : Structure → Type 0
-Law s = (problem : List GroundFormula) (steps : List CitedFact) (body : Body) → length (goals_of problem) ≡ 1 →
-    IsAccepted problem steps body → Follows s (map fof_of problem)
+Law s = (problem : List Fof) (task : CitedTask) (body : Body) → AllByRecursion FofIsAllowed problem → IsTaskOf problem task →
+    Proves (proof_task task) body → Follows s problem
 
--- where the formulas of a problem follow, the problem does
+-- where the formulas of a flat problem follow, which may be in a problem, the problem does
 flat_follows : (s : Structure) (held : Option Held) (name : Text) (formulas : List Fof) → IfSome held (λ h. IsFlat h name formulas) →
-    Follows s formulas → IfSome held (λ h. (fs : List Fof) × IsFlat h name fs × Follows s fs)
+    (AllByRecursion FofIsAllowed formulas → Follows s formulas) → IfSome held (λ h. (fs : List Fof) × IsFlat h name fs × Follows s fs)
 flat_follows s None name formulas flat follows = tt
-flat_follows s (Some h) name formulas flat follows = (formulas, flat, follows)
+flat_follows s (Some h) name formulas flat follows = (formulas, flat, follows (flat_allowed h name formulas flat))
 
 -- the words of a check tell the problem, and are no conversion
 check_same : (words : List Text) (problem proof other another : Text) → words ≡ check_words problem proof → words ≡ check_words other another →
@@ -67,10 +68,10 @@ pub follows_of : (s : Structure) → Law s → {words : List Text} {files later 
 follows_of s law {words = words} {files = files} outcome problem proof are e = by (done_of outcome e).1
   where
     by : {text : Text} → Done words files text → ProblemFollows s files problem
-    by (accepted other another bytes formulas size also reads holds is) =
+    by (accepted other another task script body also reads is) =
+        let read = reads.reads.reads in
         subst (ProblemFollows s files) (check_same words problem proof other another are also)
-        (flat_follows s files.held other reads.flat reads.read.reads
-        (subst (Follows s) (sym reads.are.are) (law formulas is.steps is.body reads.are.one_goal is.accepted)))
+        (flat_follows s files.held other read.formulas read.reads (λ allowed. law read.formulas task body allowed read.has is.proves))
     by (converted other text formulas also reads is back) = absurd (apart words problem proof other are also)
 
 -- where a text is printed that reads back as the formulas of a problem, the problem is printed
@@ -86,7 +87,7 @@ pub printed_of : {words : List Text} {files later : Known} {old new : Sinks} {st
 printed_of {words = words} {files = files} {old = old} {new = new} outcome problem are e = by (done_of outcome e).1 (done_of outcome e).2
   where
     by : {text : Text} → Done words files text → Puts old.out new.out text → ProblemPrinted files problem old.out new.out
-    by (accepted other another bytes formulas size also reads holds is) put = absurd (apart words other another problem also are)
+    by (accepted other another task script body also reads is) put = absurd (apart words other another problem also are)
     by (converted other text formulas also reads is back) put =
         subst (λ p. ProblemPrinted files p old.out new.out) (convert_same words problem other are also)
         (flat_printed files.held other text formulas old.out new.out reads put back)
@@ -105,25 +106,23 @@ names_some words names are none = let never = rw none at are in cc
 
 -- words by which something is done are a command
 done_some : {words : List Text} {files : Known} {text : Text} → Done words files text → command_of words ≡ None → ⊥
-done_some {words = words} (accepted problem proof bytes formulas size are reads holds is) none = check_some words problem proof are none
+done_some {words = words} (accepted problem proof task script body are reads is) none = check_some words problem proof are none
 done_some {words = words} (converted problem text formulas are reads is back) none = convert_some words problem are none
 
 -- words that ask for a file are a command
 asked_some : {words : List Text} {files : Known} {file : Text} → IsAsked words files file → command_of words ≡ None → ⊥
 asked_some {words = words} (of_problem problem names asked) none = names_some words _ names.1 none
-asked_some {words = words} (as_second problem formulas task names reads) none = names_some words _ names none
+asked_some {words = words} (as_second problem task names reads) none = names_some words _ names none
 
 -- words that are no command are answered with the usage text
 usage_row : {words : List Text} {files later : Known} {output : Bool} {text : Text} {status : ℕ} → Answer words files later output text status →
     command_of words ≡ None → status ≡ 64
 usage_row (done text row) none = absurd (done_some row none)
-usage_row {words = words} (refused problem proof bytes formulas are reads holds is) none = absurd (check_some words problem proof are none)
+usage_row {words = words} (step_refused problem proof task script refusal are reads is) none = absurd (check_some words problem proof are none)
 usage_row {words = words} (problem_refused problem file why names told inner) none = absurd (names_some words _ names.1 none)
 usage_row {words = words} (formula_refused problem second formulas refusal names reads is) none = absurd (names_some words _ names none)
-usage_row {words = words} (too_long problem second formulas task names reads long) none = absurd (names_some words _ names none)
-usage_row {words = words} (not_ground problem second bytes formulas task names reads holds is) none = absurd (names_some words _ names none)
-usage_row {words = words} (no_tokens problem second bytes formulas refusal names reads holds is) none = absurd (names_some words _ names none)
-usage_row {words = words} (no_proof problem second bytes formulas names reads holds is) none = absurd (names_some words _ names none)
+usage_row {words = words} (too_long problem second task names reads long) none = absurd (names_some words _ names none)
+usage_row {words = words} (proof_refused problem second task bytes refusal names reads is) none = absurd (names_some words _ names none)
 usage_row (usage is) none = refl
 usage_row (fault file asked fails) none = absurd (asked_some asked none)
 

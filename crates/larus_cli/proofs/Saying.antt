@@ -14,10 +14,13 @@ use Rattle.include_flat.specs.Refusals.{IsFlatRefused, IsFlatRefusal, IsOutside}
 use Rattle.coherent_form.specs.declared.task_refusal.TaskRefusal.{TaskRefusal}
 use Rattle.coherent_form.specs.declared.task_refusal.TaskWhy.TheVariants as task
 use Rattle.coherent_form.specs.Tasks.{CitedTask, IsTaskFault}
+use Rattle.proof_text.specs.declared.refusal.ScriptRefusal.{ScriptRefusal}
+use Rattle.proof_text.specs.declared.refusal.ScriptRefusal.TheVariants as script
+use Rattle.proof_text.specs.Scripts.{ProofFault}
 use Rattle.larus_cli.specs.Words.{check_words, convert_words, NamesProblem, NamesBoth}
-use Rattle.larus_cli.specs.Done.{ReadsProblem, ReadsTask}
-use Rattle.larus_cli.specs.Answers.{Answer, of_problem, as_second, problem_refused, formula_refused, too_long, fault}
-use Rattle.larus_cli.specs.Texts.{flat_text, formula_text, fault_text, too_long_text}
+use Rattle.larus_cli.specs.Done.{ReadsProblem, ReadsTask, ReadsBytes}
+use Rattle.larus_cli.specs.Answers.{Answer, of_problem, as_second, problem_refused, formula_refused, too_long, proof_refused, fault}
+use Rattle.larus_cli.specs.Texts.{flat_text, formula_text, fault_text, too_long_text, script_text}
 
 -- the files that the words of a command name
 pub names_check : (words : List Text) (problem proof : Text) → words ≡ check_words problem proof → NamesBoth words problem proof
@@ -76,17 +79,17 @@ fails_behind a b = record {
 }
 
 -- a second file that could not be fetched
-pub second_fault : (words : List Text) (before middle later : Known) (problem name : Text) (formulas : List Fof) (task : CitedTask) →
-    Grows before middle → NamesBoth words problem name → ReadsTask before problem formulas task → Fails middle later name →
+pub second_fault : (words : List Text) (before middle later : Known) (problem name : Text) (task : CitedTask) →
+    Grows before middle → NamesBoth words problem name → ReadsTask before problem task → Fails middle later name →
     Answer words before later false (name ++ fault_text) 66
-second_fault words before middle later problem name formulas task grows names reads fails =
-    fault name (as_second problem formulas task names reads) (fails_behind grows fails)
+second_fault words before middle later problem name task grows names reads fails =
+    fault name (as_second problem task names reads) (fails_behind grows fails)
 
 -- a second file that has too many bytes
-pub second_too_long : (words : List Text) (before middle later : Known) (problem name : Text) (formulas : List Fof) (task : CitedTask) →
-    Grows before middle → NamesBoth words problem name → ReadsTask before problem formulas task →
+pub second_too_long : (words : List Text) (before middle later : Known) (problem name : Text) (task : CitedTask) →
+    Grows before middle → NamesBoth words problem name → ReadsTask before problem task →
     IsTooLong MOST_FILE_BYTES name middle later → Answer words before later false (name ++ too_long_text) 3
-second_too_long words before middle later problem name formulas task grows names reads long = too_long problem name formulas task names reads
+second_too_long words before middle later problem name task grows names reads long = too_long problem name task names reads
     (subst (λ held. IfSome held (λ h. IsLong h name MOST_FILE_BYTES)) grows.held long.longer)
 
 -- what a later look at the files tells of them was so before
@@ -95,3 +98,10 @@ pub holds_before : (before middle : Known) (name bytes : Text) → Grows before 
 holds_before before middle name bytes grows holds =
     subst (λ held. Holds (record before { held = held }) name bytes MOST_FILE_BYTES) grows.held
     (record { held = holds.held; within = holds.within })
+
+-- bytes of a second file that spell no script
+pub proof_told : (words : List Text) (files later : Known) (problem second : Text) (task : CitedTask) (bytes : Text) (refusal : ScriptRefusal) →
+    NamesBoth words problem second → ReadsBytes files problem second task bytes → refusal ≢ script.Memory →
+    (refusal ≡ script.Memory) ⊎ ProofFault bytes refusal → Answer words files later false (second ++ script_text refusal) 3
+proof_told words files later problem second task bytes refusal names reads some (inl e) = absurd (some e)
+proof_told words files later problem second task bytes refusal names reads some (inr is) = proof_refused problem second task bytes refusal names reads is

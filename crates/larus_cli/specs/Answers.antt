@@ -5,40 +5,37 @@ use Rattle.text_core.specs.declared.limits.TheConstants.{MOST_FILE_BYTES}
 use Rattle.text_core.specs.Names.{Text}
 use Rattle.logic_core.specs.declared.problem.Fof.{Fof}
 use Rattle.io_core.specs.Known.{Known}
-use Rattle.io_core.specs.Fetched.{Holds, Fails, IsLong}
-use Rattle.tptp_lexer.specs.declared.refusal.LexRefusal.{LexRefusal}
+use Rattle.io_core.specs.Fetched.{Fails, IsLong}
 use Rattle.include_flat.specs.declared.refusal.FlatWhy.{FlatWhy}
 use Rattle.include_flat.specs.Refusals.{IsFlatRefused, IsAskedFor, IsOutside}
 use Rattle.coherent_form.specs.declared.task_refusal.TaskRefusal.{TaskRefusal}
 use Rattle.coherent_form.specs.Tasks.{CitedTask, IsTaskFault}
-use Rattle.proof_checker.specs.declared.ground.GroundFormula.{GroundFormula}
-use Rattle.proof_checker.specs.declared.problem.NotGround.TheVariants as unground
-use Rattle.proof_checker.specs.declared.words.NotRead.TheVariants as unread
-use Rattle.proof_checker.specs.Ground.{IsGroundProof, IsUnground}
-use Rattle.proof_checker.specs.Unread.{IsUnread}
-use Rattle.proof_checker.specs.Accepted.{Refuses}
+use Rattle.proof_text.specs.declared.refusal.ScriptRefusal.{ScriptRefusal}
+use Rattle.proof_text.specs.Values.{Written}
+use Rattle.proof_text.specs.Scripts.{ProofFault}
+use Rattle.proof_checker.specs.declared.refusal.StepRefusal.{StepRefusal}
+use Rattle.proof_checker.specs.Faults.{IsFault}
 use Rattle.larus_cli.specs.Words.{command_of, check_words, NamesProblem, NamesBoth}
-use Rattle.larus_cli.specs.Texts.{lexical_text, fault_text, too_long_text, not_built_text, flat_text}
-use Rattle.larus_cli.specs.Texts.{formula_text, refused_text, usage_text}
-use Rattle.larus_cli.specs.Done.{ReadsProblem, ReadsTask, ReadsGround, Done}
+use Rattle.larus_cli.specs.Texts.{fault_text, too_long_text, flat_text, formula_text}
+use Rattle.larus_cli.specs.Texts.{script_text, step_text, usage_text}
+use Rattle.larus_cli.specs.Done.{ReadsProblem, ReadsTask, ReadsBytes, ReadsScript, Done}
 
 -- the files are asked for this one: by the walk over the problem, or as the second file
 pub data IsAsked (words : List Text) (files : Known) (file : Text) : Type 0 where
   of_problem : (problem : Text) → NamesProblem words problem →
       IfSome files.held (λ held. IsAskedFor held problem file) → IsAsked words files file
-  as_second : (problem : Text) (formulas : List Fof) (task : CitedTask) →
-      NamesBoth words problem file → ReadsTask files problem formulas task →
-      IsAsked words files file
+  as_second : (problem : Text) (task : CitedTask) → NamesBoth words problem file →
+      ReadsTask files problem task → IsAsked words files file
 
 -- a text goes to the output (true) or to the errors (false), with a status
 pub data Answer (words : List Text) (files later : Known) : Bool → Text → ℕ → Type 0 where
   -- 0: the command is done
   done : (text : Text) → Done words files text → Answer words files later true text 0
-  -- 1: the proof is not accepted
-  refused : (problem proof bytes : Text) (formulas : List GroundFormula) →
-      words ≡ check_words problem proof → ReadsGround files problem formulas →
-      Holds files proof bytes MOST_FILE_BYTES → Refuses formulas bytes →
-      Answer words files later true refused_text 1
+  -- 1: a step of the proof is refused
+  step_refused : (problem proof : Text) (task : CitedTask) (script : Written)
+      (refusal : StepRefusal) → words ≡ check_words problem proof →
+      ReadsScript files problem proof task script → IsFault task script refusal →
+      Answer words files later true (step_text refusal) 1
   -- 2: a file of the problem is refused
   problem_refused : (problem file : Text) (why : FlatWhy) → NamesProblem words problem →
       IfSome files.held (λ held. IsFlatRefused held problem file why) → ¬ (IsOutside why) →
@@ -49,26 +46,15 @@ pub data Answer (words : List Text) (files later : Known) : Bool → Text → �
       IsTaskFault formulas refusal →
       Answer words files later false (formula_text refusal) 2
   -- 3: the second file has too many bytes
-  too_long : (problem second : Text) (formulas : List Fof) (task : CitedTask) →
-      NamesBoth words problem second → ReadsTask files problem formulas task →
+  too_long : (problem second : Text) (task : CitedTask) →
+      NamesBoth words problem second → ReadsTask files problem task →
       IfSome files.held (λ held. IsLong held second MOST_FILE_BYTES) →
       Answer words files later false (second ++ too_long_text) 3
-  -- 3: no proof of the problem is read, since it is not ground
-  not_ground : (problem second bytes : Text) (formulas : List Fof) (task : CitedTask) →
-      NamesBoth words problem second → ReadsTask files problem formulas task →
-      Holds files second bytes MOST_FILE_BYTES → IsUnground formulas unground.NotBuilt →
-      Answer words files later false (second ++ not_built_text) 3
-  -- 3: the bytes of the second file have no tokens
-  no_tokens : (problem second bytes : Text) (formulas : List GroundFormula) (refusal : LexRefusal) →
-      NamesBoth words problem second → ReadsGround files problem formulas →
-      Holds files second bytes MOST_FILE_BYTES →
-      IsUnread IsGroundProof bytes (unread.Lexical refusal) →
-      Answer words files later false (second ++ lexical_text refusal) 3
-  -- 3: the tokens of the second file are no ground proof
-  no_proof : (problem second bytes : Text) (formulas : List GroundFormula) →
-      NamesBoth words problem second → ReadsGround files problem formulas →
-      Holds files second bytes MOST_FILE_BYTES → IsUnread IsGroundProof bytes unread.NotBuilt →
-      Answer words files later false (second ++ not_built_text) 3
+  -- 3: the bytes of the second file spell no script
+  proof_refused : (problem second : Text) (task : CitedTask) (bytes : Text)
+      (refusal : ScriptRefusal) → NamesBoth words problem second →
+      ReadsBytes files problem second task bytes → ProofFault bytes refusal →
+      Answer words files later false (second ++ script_text refusal) 3
   -- 64: the words are no command
   usage : command_of words ≡ None → Answer words files later false usage_text 64
   -- 66: a file that was asked for could not be fetched

@@ -10,20 +10,19 @@ use Rattle.larus_cli.specs.declared.report.Report.TheVariants.{ProblemFile, Prob
 use Rattle.larus_cli.specs.declared.reply.Reply.{Reply}
 use Rattle.larus_cli.specs.declared.decide.Halt.{Halt}
 use Rattle.larus_cli.specs.declared.decide.Halt.TheVariants as halt
-use Rattle.larus_cli.specs.Texts.{lexical_text, fault_text, too_long_text, not_built_text, flat_text}
-use Rattle.larus_cli.specs.Texts.{formula_text, accepted_text, refused_text}
+use Rattle.larus_cli.specs.Texts.{fault_text, too_long_text, flat_text}
+use Rattle.larus_cli.specs.Texts.{formula_text, script_text, step_text, accepted_text}
 use Rattle.larus_cli.specs.Answers.{Answer}
 
 -- what is behind the name of a proof's file
 abbrev pub proof_text : ProofWhy → Text
-proof_text (proof.Lexical refusal) = lexical_text refusal
 proof_text proof.FileTooLong = too_long_text
-proof_text proof.NotBuilt = not_built_text
+proof_text (proof.Script refusal) = script_text refusal
 
 -- what is printed for a report, where and with which status
 abbrev pub reply_of : Report → Reply
 reply_of (Accepted size) = record { text = accepted_text size; is_output = true; status = 0 }
-reply_of Refused = record { text = refused_text; is_output = true; status = 1 }
+reply_of (Refused refusal) = record { text = step_text refusal; is_output = true; status = 1 }
 reply_of (Converted text) = record { text = text; is_output = true; status = 0 }
 reply_of (FileFault file) = record { text = file ++ fault_text; is_output = false; status = 66 }
 reply_of (ProblemFile refusal) =

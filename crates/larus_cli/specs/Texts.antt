@@ -11,6 +11,13 @@ use Rattle.include_flat.specs.declared.refusal.FlatWhy.TheVariants as flat
 use Rattle.coherent_form.specs.declared.task_refusal.TaskWhy.{TaskWhy}
 use Rattle.coherent_form.specs.declared.task_refusal.TaskWhy.TheVariants as task
 use Rattle.coherent_form.specs.declared.task_refusal.TaskRefusal.{TaskRefusal}
+use Rattle.proof_text.specs.declared.refusal.ScriptRefusal.{ScriptRefusal}
+use Rattle.proof_text.specs.declared.refusal.ScriptRefusal.TheVariants as script
+use Rattle.proof_checker.specs.declared.refusal.Rule.{Rule}
+use Rattle.proof_checker.specs.declared.refusal.Rule.TheVariants as rule
+use Rattle.proof_checker.specs.declared.refusal.Why.{Why}
+use Rattle.proof_checker.specs.declared.refusal.Why.TheVariants as why
+use Rattle.proof_checker.specs.declared.refusal.StepRefusal.{StepRefusal}
 
 -- a line feed (10) behind a text
 abbrev pub ended : Text → Text
@@ -38,15 +45,12 @@ syntax_text (syntax.Role offset) = at_offset offset (codes ": 9 Role")
 syntax_text (syntax.FreeVariable offset) = at_offset offset (codes ": 10 FreeVariable")
 syntax_text syntax.Memory = []
 
--- what is behind a file's name where it was not fetched, has too many bytes, or is not built yet
+-- what is behind a file's name where it was not fetched, or has too many bytes
 abbrev pub fault_text : Text
 fault_text = ended (codes ": 11 FileFault")
 
 abbrev pub too_long_text : Text
 too_long_text = ended (codes ": 12 FileTooLong")
-
-abbrev pub not_built_text : Text
-not_built_text = ended (codes ": 45 NotBuilt")
 
 -- what is behind the name of a problem's file
 abbrev pub flat_text : FlatWhy → Text
@@ -72,11 +76,57 @@ task_text task.Memory = []
 abbrev pub formula_text : TaskRefusal → Text
 formula_text refusal = codes "formula " ++ decimal refusal.formula ++ task_text refusal.why
 
+-- what is behind the name of a proof's file whose bytes spell no script; nothing is told of want of
+-- memory
+abbrev pub script_text : ScriptRefusal → Text
+script_text (script.Lex refusal) = lexical_text refusal
+script_text (script.ProofSyntax offset) = at_offset offset (codes ": 20 ProofSyntax")
+script_text (script.ProofVersion offset) = at_offset offset (codes ": 21 ProofVersion")
+script_text (script.ProofTooLarge offset) = at_offset offset (codes ": 22 ProofTooLarge")
+script_text (script.CasesTooDeep offset) = at_offset offset (codes ": 23 CasesTooDeep")
+script_text script.Memory = []
+
+-- the word of a rule
+abbrev pub rule_text : Rule → Text
+rule_text rule.Take = codes "take"
+rule_text rule.Mp = codes "mp"
+rule_text rule.Cs = codes "cs"
+rule_text rule.As = codes "as"
+rule_text rule.Efq = codes "efq"
+rule_text rule.Gap = codes "gap"
+
+-- the number and the name of a check that fails, and for some which premise, case, atom or binding
+-- it is
+abbrev pub why_text : Why → Text
+why_text why.ParameterCount = codes "24 ParameterCount"
+why_text why.NameTaken = codes "25 NameTaken"
+why_text why.UnknownAxiom = codes "26 UnknownAxiom"
+why_text why.InstanceCount = codes "27 InstanceCount"
+why_text why.InstanceUnknown = codes "28 InstanceUnknown"
+why_text (why.PremiseMissing n) = codes "29 PremiseMissing " ++ decimal n
+why_text why.WitnessCount = codes "30 WitnessCount"
+why_text why.WitnessTaken = codes "31 WitnessTaken"
+why_text why.ShownDiffers = codes "32 ShownDiffers"
+why_text why.NoSuchLine = codes "33 NoSuchLine"
+why_text why.NotCases = codes "34 NotCases"
+why_text why.BranchCount = codes "35 BranchCount"
+why_text (why.CaseDiffers n) = codes "36 CaseDiffers " ++ decimal n
+why_text why.NoSuchDisjunct = codes "37 NoSuchDisjunct"
+why_text why.AnswerCount = codes "38 AnswerCount"
+why_text why.AnswerUnknown = codes "39 AnswerUnknown"
+why_text (why.AtomMissing n) = codes "40 AtomMissing " ++ decimal n
+why_text why.NoFalsum = codes "41 NoFalsum"
+why_text (why.VariableUnknown n) = codes "48 VariableUnknown " ++ decimal n
+why_text (why.VariableTwice n) = codes "49 VariableTwice " ++ decimal n
+why_text why.GapOpen = codes "50 GapOpen"
+
 abbrev pub accepted_text : ℕ → Text
 accepted_text size = codes "accepted " ++ ended (decimal size)
 
-abbrev pub refused_text : Text
-refused_text = ended (codes "refused")
+-- the number of a step that is refused, its rule, and why
+abbrev pub step_text : StepRefusal → Text
+step_text refusal = codes "refused " ++ decimal refusal.step ++ codes " " ++
+    rule_text refusal.rule ++ codes " " ++ ended (why_text refusal.why)
 
 abbrev pub usage_text : Text
 usage_text = ended (codes "44 Usage") ++ ended (codes "check PROBLEM PROOF") ++

@@ -2,13 +2,12 @@ ghost use Rattle.std.specs.Prelude.{◌≡◌, ◌≤◌, length, IfOk, IfErr, L
 ghost use Rattle.text_core.specs.Names.{Text};
 ghost use Rattle.io_core.specs.Known.{Known};
 ghost use Rattle.io_core.specs.Fetched.{Grows, Holds};
-ghost use Rattle.logic_core.specs.declared.problem.Fof.{Fof as Formula};
 ghost use Rattle.coherent_form.specs.Tasks.{CitedTask};
-ghost use Rattle.proof_checker.specs.Ground.{goals_of};
+ghost use Rattle.proof_text.specs.Scripts.{IsScriptOf};
 ghost use Rattle.text_core.specs.declared.limits.TheConstants.{MOST_FILE_BYTES};
 ghost use Rattle.larus_cli.specs.declared.report.Report.TheVariants.{ProofFile};
 ghost use Rattle.larus_cli.specs.Words.{command_of, check_words, NamesProblem, NamesBoth};
-ghost use Rattle.larus_cli.specs.Done.{ReadsProblem, ReadsTask, ReadsGround};
+ghost use Rattle.larus_cli.specs.Done.{ReadsProblem, ReadsTask, ReadsBytes, ReadsScript};
 ghost use Rattle.larus_cli.specs.Answers.{Answer};
 ghost use Rattle.larus_cli.specs.Reports.{Decides, Halts};
 
@@ -19,7 +18,8 @@ use coherent_form::{Task, TaskWhy};
 use include_flat::{FlatWhy, flatten};
 use io_core::{FetchFault, Files, fetch_whole};
 use logic_core::{Bytes, Memory, Problem};
-use proof_checker::{FirstRefusal, GroundFormula, NotGround, check_first, ground_formulas};
+use proof_checker::{CheckRefusal, check_script};
+use proof_text::{Script, ScriptRefusal, read_script};
 use std::alloc::Global;
 use tptp_printer::print_problem;
 
@@ -59,18 +59,16 @@ fn read_problem<F: Files>(alloc: Global, files: &mut F, name: &[u8]) -> Result<P
     }
 }
 
-/// The formulas of the problem in a file, for a command that reads a second file: one that has a
-/// task.
-fn read_task<F: Files>(alloc: Global, files: &mut F, name: &[u8]) -> Result<Problem, Halt>
-    ensures reads { IfOk result (λ formulas. (task : CitedTask)
-        × ReadsTask (F.known files.old) name.now formulas task) }
+/// The task of the problem in a file, for a command that reads a second file.
+fn read_task<F: Files>(alloc: Global, files: &mut F, name: &[u8]) -> Result<Task, Halt>
+    ensures reads { IfOk result (ReadsTask (F.known files.old) name.now) }
     ensures halts { (words : Lst Text) (second : Text) → NamesBoth words name.now second
         → IfErr result (Halts words (F.known files.old) (F.known files.new)) }
     ensures grows { Grows (F.known files.old) (F.known files.new) }
 {
     let problem = read_problem(alloc, files, name)?;
     match Task::build(alloc, &problem) {
-        Ok(_) => Ok(problem),
+        Ok(task) => Ok(task),
         Err(refusal) => match refusal.why {
             TaskWhy::Memory => Err(Halt::Memory),
             _ => Err(Halt::Said(Report::ProblemFormula(refusal))),
@@ -90,9 +88,9 @@ fn refused(alloc: Global, name: &[u8], why: ProofWhy) -> Result<Report, Memory>
 fn read_second<F: Files>(alloc: Global, files: &mut F, name: &[u8]) -> Result<Bytes, Halt>
     ensures holds { IfOk result (λ bytes. Holds
         (F.known files.old) name.now bytes MOST_FILE_BYTES) }
-    ensures halts { (words : Lst Text) (before : Known) (problem : Text) (formulas : Lst Formula)
-        (task : CitedTask) → Grows before (F.known files.old)
-        → NamesBoth words problem name.now → ReadsTask before problem formulas task
+    ensures halts { (words : Lst Text) (before : Known) (problem : Text) (task : CitedTask)
+        → Grows before (F.known files.old)
+        → NamesBoth words problem name.now → ReadsTask before problem task
         → IfErr result (Halts words before (F.known files.new)) }
     ensures grows { Grows (F.known files.old) (F.known files.new) }
 {
@@ -110,50 +108,54 @@ fn read_second<F: Files>(alloc: Global, files: &mut F, name: &[u8]) -> Result<By
     }
 }
 
-/// What there is to say of a proof of ground formulas.
-fn check_formulas(
-    alloc: Global,
-    formulas: &[GroundFormula],
-    name: &[u8],
-    bytes: &[u8],
-) -> Result<Report, Halt>
-    requires goal { length (goals_of formulas.now) ≡ 1 }
+/// The script that the bytes of the second file spell.
+fn read_proof(alloc: Global, name: &[u8], bytes: &[u8]) -> Result<Script, Halt>
     requires short { length bytes.now ≤ MOST_FILE_BYTES }
-    ensures { (words : Lst Text) (files later : Known) (problem : Text)
-        → words ≡ check_words problem name.now → ReadsGround files problem formulas.now
-        → Holds files name.now bytes.now MOST_FILE_BYTES → Decides words files later result }
+    ensures spells { IfOk result (IsScriptOf bytes.now) }
+    ensures halts { (words : Lst Text) (files later : Known) (problem : Text) (task : CitedTask)
+        → NamesBoth words problem name.now → ReadsBytes files problem name.now task bytes.now
+        → IfErr result (Halts words files later) }
 {
-    match check_first(alloc, formulas, bytes) {
-        Ok(size) => Ok(Report::Accepted(size)),
-        Err(FirstRefusal::Refused) => Ok(Report::Refused),
-        Err(FirstRefusal::Lexical(refusal)) => {
-            let report = refused(alloc, name, ProofWhy::Lexical(refusal))?;
-            Ok(report)
-        }
-        Err(FirstRefusal::NotBuilt) => {
-            let report = refused(alloc, name, ProofWhy::NotBuilt)?;
-            Ok(report)
-        }
-        Err(FirstRefusal::Memory) => Err(Halt::Memory),
+    match read_script(alloc, bytes) {
+        Ok(script) => Ok(script),
+        Err(refusal) => match refusal {
+            ScriptRefusal::Memory => Err(Halt::Memory),
+            _ => {
+                let report = refused(alloc, name, ProofWhy::Script(refusal))?;
+                Err(Halt::Said(report))
+            }
+        },
     }
 }
 
-/// What there is to say of a proof of a problem that has a task. Where the problem is not ground,
-/// it is that no proof of it is read yet.
-fn check_ground(alloc: Global, problem: &Problem, name: &[u8], bytes: &[u8]) -> Result<Report, Halt>
-    requires short { length bytes.now ≤ MOST_FILE_BYTES }
-    ensures { (words : Lst Text) (files later : Known) (file : Text) (task : CitedTask)
-        → words ≡ check_words file name.now → ReadsTask files file problem.now task
-        → Holds files name.now bytes.now MOST_FILE_BYTES → Decides words files later result }
+/// What there is to say of a script, as a proof of a task.
+fn check_steps(alloc: Global, task: &Task, script: &Script) -> Result<Report, Halt>
+    ensures { (words : Lst Text) (files later : Known) (problem proof : Text)
+        → words ≡ check_words problem proof
+        → ReadsScript files problem proof task.now script.now → Decides words files later result }
 {
-    match ground_formulas(alloc, problem) {
-        Ok(formulas) => check_formulas(alloc, formulas.as_slice(), name, bytes),
-        Err(NotGround::NotBuilt) => {
-            let report = refused(alloc, name, ProofWhy::NotBuilt)?;
-            Ok(report)
-        }
-        Err(NotGround::Memory) => Err(Halt::Memory),
+    match check_script(alloc, task, script) {
+        Ok(proof) => Ok(Report::Accepted(proof.size())),
+        Err(CheckRefusal::Step(refusal)) => Ok(Report::Refused(refusal)),
+        Err(CheckRefusal::Memory) => Err(Halt::Memory),
     }
+}
+
+/// What there is to say of the second file, as a proof of a task. Before it the problem was read.
+fn check_second<F: Files>(
+    alloc: Global,
+    task: &Task,
+    files: &mut F,
+    name: &[u8],
+) -> Result<Report, Halt>
+    ensures decides { (words : Lst Text) (before : Known) (problem : Text)
+        → Grows before (F.known files.old) → words ≡ check_words problem name.now
+        → ReadsTask before problem task.now → Decides words before (F.known files.new) result }
+    ensures grows { Grows (F.known files.old) (F.known files.new) }
+{
+    let bytes = read_second(alloc, files, name)?;
+    let script = read_proof(alloc, name, bytes.as_slice())?;
+    check_steps(alloc, task, &script)
 }
 
 /// What there is to say of a proof of a problem. The problem is read and its task built first.
@@ -163,9 +165,8 @@ fn check<F: Files>(alloc: Global, words: &[Bytes], files: &mut F) -> Result<Repo
     ensures grows { Grows (F.known files.old) (F.known files.new) }
 {
     let (problem, name) = check_names(words);
-    let formulas = read_task(alloc, files, problem)?;
-    let bytes = read_second(alloc, files, name)?;
-    check_ground(alloc, &formulas, name, bytes.as_slice())
+    let task = read_task(alloc, files, problem)?;
+    check_second(alloc, &task, files, name)
 }
 
 /// What there is to say of a problem that is to be printed.

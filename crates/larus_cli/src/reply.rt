@@ -7,6 +7,8 @@ use crate::report::{ProofRefusal, ProofWhy, Report};
 use coherent_form::{TaskRefusal, TaskWhy};
 use include_flat::{FlatRefusal, FlatWhy};
 use logic_core::{Bytes, Memory};
+use proof_checker::{Rule, StepRefusal, Why};
+use proof_text::ScriptRefusal;
 use std::alloc::Global;
 use tptp_grammar::SyntaxRefusal;
 use tptp_lexer::LexRefusal;
@@ -89,14 +91,41 @@ fn flat(alloc: Global, refusal: &FlatRefusal) -> Result<Bytes, Memory>
     }
 }
 
+fn script(alloc: Global, file: &[u8], refusal: &ScriptRefusal) -> Result<Bytes, Memory>
+    ensures { IfOk result (λ all. all ≡ file.now ++ texts.script_text refusal.now) }
+{
+    match refusal {
+        ScriptRefusal::Lex(refusal) => lexical(alloc, file, refusal),
+        ScriptRefusal::ProofSyntax(offset) => at_offset(alloc, file, *offset, b": 20 ProofSyntax"),
+        ScriptRefusal::ProofVersion(offset) => at_offset(
+            alloc,
+            file,
+            *offset,
+            b": 21 ProofVersion",
+        ),
+        ScriptRefusal::ProofTooLarge(offset) => at_offset(
+            alloc,
+            file,
+            *offset,
+            b": 22 ProofTooLarge",
+        ),
+        ScriptRefusal::CasesTooDeep(offset) => at_offset(
+            alloc,
+            file,
+            *offset,
+            b": 23 CasesTooDeep",
+        ),
+        ScriptRefusal::Memory => Err(Memory),
+    }
+}
+
 fn proof(alloc: Global, refusal: &ProofRefusal) -> Result<Bytes, Memory>
     ensures { IfOk result (λ all. all ≡ refusal.now.file ++ proof_text refusal.now.why) }
 {
     let file = refusal.file.as_slice();
     match &refusal.why {
-        ProofWhy::Lexical(refusal) => lexical(alloc, file, refusal),
         ProofWhy::FileTooLong => named(alloc, file, b": 12 FileTooLong"),
-        ProofWhy::NotBuilt => named(alloc, file, b": 45 NotBuilt"),
+        ProofWhy::Script(refusal) => script(alloc, file, refusal),
     }
 }
 
@@ -126,6 +155,63 @@ fn formula(alloc: Global, refusal: &TaskRefusal) -> Result<Bytes, Memory>
         TaskWhy::ManyGoals => named(alloc, front, b": 47 ManyGoals"),
         TaskWhy::Memory => Err(Memory),
     }
+}
+
+/// The word of a rule.
+fn rule_word(rule: Rule) -> &'static [u8]
+    ensures { result.now ≡ texts.rule_text rule }
+{
+    match rule {
+        Rule::Take => b"take",
+        Rule::Mp => b"mp",
+        Rule::Cs => b"cs",
+        Rule::As => b"as",
+        Rule::Efq => b"efq",
+        Rule::Gap => b"gap",
+    }
+}
+
+/// The number and the name of a check that fails, and for some which premise, case, atom or binding
+/// it is.
+fn reason(alloc: Global, why: Why) -> Result<Bytes, Memory>
+    ensures { IfOk result (λ all. all ≡ texts.why_text why) }
+{
+    match why {
+        Why::ParameterCount => Bytes::from_slice(alloc, b"24 ParameterCount"),
+        Why::NameTaken => Bytes::from_slice(alloc, b"25 NameTaken"),
+        Why::UnknownAxiom => Bytes::from_slice(alloc, b"26 UnknownAxiom"),
+        Why::InstanceCount => Bytes::from_slice(alloc, b"27 InstanceCount"),
+        Why::InstanceUnknown => Bytes::from_slice(alloc, b"28 InstanceUnknown"),
+        Why::PremiseMissing(number) => numbered(alloc, b"29 PremiseMissing ", number),
+        Why::WitnessCount => Bytes::from_slice(alloc, b"30 WitnessCount"),
+        Why::WitnessTaken => Bytes::from_slice(alloc, b"31 WitnessTaken"),
+        Why::ShownDiffers => Bytes::from_slice(alloc, b"32 ShownDiffers"),
+        Why::NoSuchLine => Bytes::from_slice(alloc, b"33 NoSuchLine"),
+        Why::NotCases => Bytes::from_slice(alloc, b"34 NotCases"),
+        Why::BranchCount => Bytes::from_slice(alloc, b"35 BranchCount"),
+        Why::CaseDiffers(number) => numbered(alloc, b"36 CaseDiffers ", number),
+        Why::NoSuchDisjunct => Bytes::from_slice(alloc, b"37 NoSuchDisjunct"),
+        Why::AnswerCount => Bytes::from_slice(alloc, b"38 AnswerCount"),
+        Why::AnswerUnknown => Bytes::from_slice(alloc, b"39 AnswerUnknown"),
+        Why::AtomMissing(number) => numbered(alloc, b"40 AtomMissing ", number),
+        Why::NoFalsum => Bytes::from_slice(alloc, b"41 NoFalsum"),
+        Why::VariableUnknown(number) => numbered(alloc, b"48 VariableUnknown ", number),
+        Why::VariableTwice(number) => numbered(alloc, b"49 VariableTwice ", number),
+        Why::GapOpen => Bytes::from_slice(alloc, b"50 GapOpen"),
+    }
+}
+
+fn step(alloc: Global, refusal: &StepRefusal) -> Result<Bytes, Memory>
+    ensures { IfOk result (λ all. all ≡ texts.step_text refusal.now) }
+{
+    let mut all = numbered(alloc, b"refused ", refusal.step)?;
+    all.push(b' ')?;
+    all.extend_from_slice(rule_word(refusal.rule))?;
+    all.push(b' ')?;
+    let why = reason(alloc, refusal.why)?;
+    all.extend_from_slice(why.as_slice())?;
+    all.push(b'\n')?;
+    Ok(all)
 }
 
 fn accepted(alloc: Global, size: u32) -> Result<Bytes, Memory>
@@ -164,7 +250,7 @@ pub(crate) fn reply_of(alloc: Global, report: Report) -> Result<Reply, Memory>
 {
     Ok(match report {
         Report::Accepted(size) => answered(accepted(alloc, size)?, 0),
-        Report::Refused => answered(named(alloc, b"", b"refused")?, 1),
+        Report::Refused(refusal) => answered(step(alloc, &refusal)?, 1),
         Report::Converted(text) => answered(text, 0),
         Report::FileFault(file) => complained(
             named(alloc, file.as_slice(), b": 11 FileFault")?,

@@ -1,7 +1,8 @@
 use coherent_form::TaskRefusal;
 use include_flat::FlatRefusal;
 use logic_core::Bytes;
-use tptp_lexer::LexRefusal;
+use proof_checker::StepRefusal;
+use proof_text::ScriptRefusal;
 
 /// Why a proof's file is refused, and its name.
 #[derive(Debug, Drop)]
@@ -13,12 +14,10 @@ pub struct ProofRefusal {
 /// Why a proof's file is refused.
 #[derive(Debug, Drop)]
 pub enum ProofWhy {
-    /// Its bytes have no tokens.
-    Lexical(LexRefusal),
     /// It has more than `MOST_FILE_BYTES` bytes.
     FileTooLong,
-    /// Its form, or that of the problem's proofs, is not built yet.
-    NotBuilt,
+    /// Its bytes spell no script.
+    Script(ScriptRefusal),
 }
 
 /// What there is to say of a problem, or of a problem and a proof. Files are told by the names by
@@ -27,8 +26,8 @@ pub enum ProofWhy {
 pub enum Report {
     /// The proof is accepted, with so many rule applications.
     Accepted(u32),
-    /// The proof is not accepted.
-    Refused,
+    /// A step of the proof is refused.
+    Refused(StepRefusal),
     /// The canonical text of the problem.
     Converted(Bytes),
     /// This file could not be fetched.

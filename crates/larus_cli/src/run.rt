@@ -12,9 +12,9 @@ ghost use Rattle.larus_cli.specs.Outcome.{Outcome, sinks};
 
 use crate::command::read_words;
 use crate::decide::reply_to;
+use coherent_form::proved_task_follows;
 use io_core::{Files, Sink};
 use logic_core::{Bytes, World};
-use proof_checker::accepted_follows;
 use std::alloc::Global;
 
 /// What the program prints where its words are no command.
@@ -104,6 +104,6 @@ pub fn run<W: World, F: Files, O: Sink, E: Sink>(
         → (O.stream out.new ≡ O.stream out.old) × (E.stream errs.new ≡ E.stream errs.old) }
     ensures statuses { IsAmong result (0 ∷ 1 ∷ 2 ∷ 3 ∷ 64 ∷ 66 ∷ 71 ∷ 74 ∷ []) }
 {
-    accepted_follows::<W>();
+    proved_task_follows::<W>();
     answer(alloc, words, files, out, errs)
 }

@@ -4,7 +4,7 @@ use logic_core::{AnyWorld, Bytes, List};
 use std::alloc::Global;
 use std::process::Abort;
 use std::test::Fail;
-use text_core::{MOST_FILE_BYTES, MOST_FORMULAS};
+use text_core::{MOST_APPLICATIONS, MOST_FILE_BYTES, MOST_FORMULAS, MOST_SPLITS};
 
 const CHECK: &[&[u8]] = &[b"check", b"x.p", b"x.v"];
 
@@ -32,6 +32,120 @@ const FOUR_FILES: Entries = &[
     (b"x.v", PROOF),
 ];
 
+const SAME_NAMES: Entries = &[
+    (
+        b"x.p",
+        b"fof(a,axiom,p(c)). fof(a,axiom,q(c)). fof(g,conjecture,q(c)).",
+    ),
+    (
+        b"x.v",
+        b"vernacular 1. take []. mp a:2 [] new [] gives q(c). as 1 [].",
+    ),
+];
+
+const TAKEN_WITNESS: Entries = &[
+    (
+        b"x.p",
+        b"fof(a1,axiom,? [X] : p(X)). fof(g,conjecture,p(d)).",
+    ),
+    (
+        b"x.v",
+        b"vernacular 1. take []. mp a1 [] new [d] gives p(d). as 1 [].",
+    ),
+];
+
+const TWO_CASES: Entries = &[
+    (
+        b"x.p",
+        b"fof(a1,axiom,p(c) | q(c)). fof(a2,axiom,! [X] : (p(X) => ? [Y] : r(X,Y))).
+fof(a3,axiom,! [X] : (q(X) => ? [Y] : r(X,Y))). fof(g,conjecture,? [U,V] : r(U,V)).",
+    ),
+    (
+        b"x.v",
+        b"vernacular 1. take []. mp a1 [] new [] gives p(c) | q(c). cs 1.
+case p(c). mp a2 [c] new [d] gives r(c,d). as 1 [c,d].
+case q(c). mp a3 [c] new [d] gives r(c,d). as 1 [c,d]. end.",
+    ),
+];
+
+const AXIOMS: &[u8] = b"% Seven statements after Tarski's axioms, each in coherent form.
+fof(cong_pseudo,axiom,! [A,B] : cong(A,B,B,A)).
+fof(cong_trans,axiom,! [A,B,C,D,E,F] :
+    ((cong(A,B,C,D) & cong(A,B,E,F)) => cong(C,D,E,F))).
+fof(cong_identity,axiom,! [A,B,C] : (cong(A,B,C,C) => A = B)).
+fof(segment,axiom,! [A,B,C,D] : ? [E] : (bet(A,B,E) & cong(B,E,C,D))).
+fof(five_segment,axiom,! [A,B,C,D,A1,B1,C1,D1] :
+    ((A != B & bet(A,B,C) & bet(A1,B1,C1) & cong(A,B,A1,B1) & cong(B,C,B1,C1)
+      & cong(A,D,A1,D1) & cong(B,D,B1,D1)) => cong(C,D,C1,D1))).
+fof(bet_identity,axiom,! [A,B] : (bet(A,B,A) => A = B)).
+fof(pasch,axiom,! [A,B,C,P,Q] : ((bet(A,P,C) & bet(B,Q,C))
+    => ? [X] : (bet(P,X,B) & bet(Q,X,A)))).
+";
+
+const GEOMETRY: Entries = &[
+    (
+        b"x.p",
+        b"include('tarski.ax').
+fof(beyond,conjecture,! [A,B] : (A = B | ? [C] : (bet(A,B,C) & B != C))).",
+    ),
+    (b"tarski.ax", AXIOMS),
+    (
+        b"x.v",
+        b"vernacular 1. /* a point beyond b */ take [a,b].
+mp $or(=,2) [a,b] new [] gives a = b | a != b. cs 1. case a = b. as 1 [a]. case a != b.
+mp segment [a,b,a,b] new [e] gives bet(a,b,e) & cong(b,e,a,b).
+mp $or(=,2) [b,e] new [] gives b = e | b != e. cs 4. case b = e.
+mp cong_pseudo [b,e] new [] gives cong(b,e,e,b).
+mp cong_trans [b,e,a,b,e,b] new [] gives cong(a,b,e,b). mp $sym [b,e] new [] gives e = b.
+mp $sub(cong,4,3) [a,b,e,b,b] new [] gives cong(a,b,b,b).
+mp cong_identity [a,b,b] new [] gives a = b. as 1 [a]. case b != e. as 2 [e]. end. end.",
+    ),
+];
+
+const DISJUNCTION: &[u8] = b"fof(a1,axiom,p(c) | q(c)). fof(a2,axiom,! [X] : (p(X) => r(X))).
+fof(a3,axiom,! [X] : (q(X) => r(X))). fof(g,conjecture,r(c)).";
+
+const NAMED_SHOWN: &[u8] = b"vernacular 2.
+take [].
+mp a1 with [] new [] gives p(c) | q(c).
+cs 1.
+case p(c).
+  mp a2 with [X = c] new [] gives r(c).
+  as 1 [].
+case q(c).
+  mp a3 with [X = c] new [] gives r(c).
+  as 1 [].
+end.
+";
+
+const NAMED: &[u8] = b"vernacular 2. take []. mp a1 with [] new []. cs 1.
+case. mp a2 with [X = c] new []. as 1 []. case. mp a3 with [X = c] new []. as 1 []. end.";
+
+const OTHER_NAME: &[u8] = b"vernacular 2. take []. mp a1 with [] new []. cs 1.
+case. mp a2 with [Y = c] new []. as 1 []. case. mp a3 with [X = c] new []. as 1 []. end.";
+
+const TWO_VALUES: Entries = &[
+    (
+        b"x.p",
+        b"fof(a1,axiom,! [X,Y] : s(X,Y)). fof(g,conjecture,s(c,c)).",
+    ),
+    (
+        b"x.v",
+        b"vernacular 2. take []. mp a1 with [X = c,X = c] new []. as 1 [].",
+    ),
+];
+
+const TWO_RANKS: Entries = &[
+    (
+        b"x.p",
+        b"fof(a1,axiom,! [X] : ! [X] : p(X)). fof(g,conjecture,p(d) | q(c)).",
+    ),
+    (
+        b"x.v",
+        b"vernacular 2. take []. mp a1 with [X = c,X:2 = d] new []. as 1 [].",
+    ),
+];
+
 // Words and files, with the status and what is put to the output.
 const ANSWERS: &[(&[&[u8]], Entries, u8, &[u8])] = &[
     // the cited axiom is the conjecture
@@ -53,7 +167,49 @@ const ANSWERS: &[(&[&[u8]], Entries, u8, &[u8])] = &[
         CHECK,
         &[(b"x.p", TWO_AXIOMS), (b"x.v", PROOF)],
         1,
-        b"refused\n",
+        b"refused 2 as 40 AtomMissing 1\n",
+    ),
+    // of two axioms with one name the second is cited by its rank
+    (CHECK, SAME_NAMES, 0, b"accepted 2\n"),
+    // a new name is no constant
+    (CHECK, TAKEN_WITNESS, 1, b"refused 1 mp 31 WitnessTaken\n"),
+    // each case names its own elements
+    (CHECK, TWO_CASES, 0, b"accepted 6\n"),
+    // a statement of geometry, with equality
+    (CHECK, GEOMETRY, 0, b"accepted 13\n"),
+    // the second version, with lines and facts and without
+    (
+        CHECK,
+        &[(b"x.p", DISJUNCTION), (b"x.v", NAMED_SHOWN)],
+        0,
+        b"accepted 6\n",
+    ),
+    (
+        CHECK,
+        &[(b"x.p", DISJUNCTION), (b"x.v", NAMED)],
+        0,
+        b"accepted 6\n",
+    ),
+    // the axiom has no variable of that name
+    (
+        CHECK,
+        &[(b"x.p", DISJUNCTION), (b"x.v", OTHER_NAME)],
+        1,
+        b"refused 3 mp 48 VariableUnknown 1\n",
+    ),
+    // no variable has two values
+    (CHECK, TWO_VALUES, 1, b"refused 1 mp 49 VariableTwice 2\n"),
+    // two variables of one name are told apart by rank
+    (CHECK, TWO_RANKS, 0, b"accepted 2\n"),
+    // a gap stands for no proof
+    (
+        CHECK,
+        &[
+            (b"x.p", PROBLEM),
+            (b"x.v", b"vernacular 2. take []. gap 3."),
+        ],
+        1,
+        b"refused 1 gap 50 GapOpen\n",
     ),
     // the axiom is in an included file
     (CHECK, FOUR_FILES, 0, b"accepted 2\n"),
@@ -153,15 +309,6 @@ const REFUSED_CHECKS: &[(Entries, u8, &[u8])] = &[
         2,
         b"formula 3: 47 ManyGoals\n",
     ),
-    // no proof of a problem that is not ground is read
-    (
-        &[
-            (b"x.p", b"fof(a,axiom,! [X] : p(X) & q)."),
-            (b"x.v", b"/* x"),
-        ],
-        3,
-        b"x.v: 45 NotBuilt\n",
-    ),
     (
         &[(b"x.p", PROBLEM), (b"x.v", b"vernacular 1. take []. /* x")],
         3,
@@ -170,8 +317,105 @@ const REFUSED_CHECKS: &[(Entries, u8, &[u8])] = &[
     (
         &[(b"x.p", PROBLEM), (b"x.v", b"")],
         3,
-        b"x.v: 45 NotBuilt\n",
+        b"x.v:0: 20 ProofSyntax\n",
     ),
+    (
+        &[
+            (b"x.p", PROBLEM),
+            (b"x.v", b"vernacular 1. take []. mp a1 [] new [] gives p(c)"),
+        ],
+        3,
+        b"x.v:49: 20 ProofSyntax\n",
+    ),
+    (
+        &[(b"x.p", PROBLEM), (b"x.v", b"vernacular 3.")],
+        3,
+        b"x.v:11: 21 ProofVersion\n",
+    ),
+];
+
+// A problem with a parameter, and the parts of its proof.
+const PARAMETER: &[u8] = b"fof(a1,axiom,p(c) | q(c)). fof(a2,axiom,! [X] : (p(X) => r(X))).
+fof(a3,axiom,! [X] : (q(X) => ? [Y] : s(X,Y))).
+fof(g,conjecture,! [Z] : (t(Z) => (r(c) | ? [U] : s(c,U)))).";
+
+const PARTS: &[&[u8]] = &[
+    b"vernacular 1.",
+    b"take [z].",
+    b"mp a1 [] new [] gives p(c) | q(c).",
+    b"cs 1.",
+    b"case p(c).",
+    b"mp a2 [c] new [] gives r(c).",
+    b"as 1 [c].",
+    b"case q(c).",
+    b"mp a3 [c] new [w] gives s(c,w).",
+    b"as 2 [w].",
+    b"end.",
+];
+
+// Texts in place of the parts from one to another, with the status and what is put to the output.
+const CHANGES: &[(usize, usize, &[u8], u8, &[u8])] = &[
+    (0, 0, b"vernacular 1.", 0, b"accepted 6\n"),
+    (1, 1, b"take [].", 1, b"refused 0 take 24 ParameterCount\n"),
+    (1, 1, b"take [c].", 1, b"refused 0 take 25 NameTaken\n"),
+    (
+        2,
+        2,
+        b"mp a9 [] new [] gives p(c) | q(c).",
+        1,
+        b"refused 1 mp 26 UnknownAxiom\n",
+    ),
+    (
+        2,
+        2,
+        b"mp a1 [c] new [] gives p(c) | q(c).",
+        1,
+        b"refused 1 mp 27 InstanceCount\n",
+    ),
+    (
+        5,
+        5,
+        b"mp a2 [k] new [] gives r(c).",
+        1,
+        b"refused 3 mp 28 InstanceUnknown\n",
+    ),
+    (
+        8,
+        8,
+        b"mp a2 [c] new [] gives r(c).",
+        1,
+        b"refused 5 mp 29 PremiseMissing 1\n",
+    ),
+    (
+        8,
+        8,
+        b"mp a3 [c] new [] gives s(c,w).",
+        1,
+        b"refused 5 mp 30 WitnessCount\n",
+    ),
+    (
+        8,
+        8,
+        b"mp a3 [c] new [z] gives s(c,w).",
+        1,
+        b"refused 5 mp 31 WitnessTaken\n",
+    ),
+    (
+        5,
+        5,
+        b"mp a2 [c] new [] gives r(z).",
+        1,
+        b"refused 3 mp 32 ShownDiffers\n",
+    ),
+    (3, 3, b"cs 2.", 1, b"refused 2 cs 33 NoSuchLine\n"),
+    (3, 3, b"cs 0.", 1, b"refused 2 cs 34 NotCases\n"),
+    (7, 9, b"", 1, b"refused 2 cs 35 BranchCount\n"),
+    (7, 7, b"case p(c).", 1, b"refused 2 cs 36 CaseDiffers 2\n"),
+    (6, 6, b"as 3 [c].", 1, b"refused 4 as 37 NoSuchDisjunct\n"),
+    (6, 6, b"as 1 [].", 1, b"refused 4 as 38 AnswerCount\n"),
+    (9, 9, b"as 2 [k].", 1, b"refused 6 as 39 AnswerUnknown\n"),
+    (9, 9, b"as 2 [z].", 1, b"refused 6 as 40 AtomMissing 1\n"),
+    (6, 6, b"efq.", 1, b"refused 4 efq 41 NoFalsum\n"),
 ];
 
 fn words_of(alloc: Global, texts: &[&[u8]]) -> Result<List<Bytes>, Fail> {
@@ -229,6 +473,33 @@ fn an_answer_goes_to_the_output(rt: HostRuntime) -> Result<(), Fail> {
     for (words, entries, status, text) in ANSWERS {
         let files = files_of(rt.alloc(), entries)?;
         assert_ends(&rt, rt.alloc(), words, files, (*status, text, b""))?;
+    }
+    Ok(())
+}
+
+/// The parts of a proof, with a text in place of those from one to another.
+fn changed(alloc: Global, first: usize, last: usize, text: &[u8]) -> Result<Bytes, Fail> {
+    let mut all = Bytes::new(alloc);
+    for (number, part) in PARTS.iter().enumerate() {
+        if number == first {
+            all.extend_from_slice(text)?;
+        }
+        if number < first || last < number {
+            all.extend_from_slice(part)?;
+        }
+        all.push(b' ')?;
+    }
+    Ok(all)
+}
+
+#[test]
+fn a_step_is_refused_for_its_first_check_that_fails(rt: HostRuntime) -> Result<(), Fail> {
+    for (first, last, text, status, answer) in CHANGES {
+        let mut files = MemoryFiles::new(rt.alloc());
+        files.insert(b"x.p", PARAMETER)?;
+        let proof = changed(rt.alloc(), *first, *last, text)?;
+        files.insert(b"x.v", proof.as_slice())?;
+        assert_ends(&rt, rt.alloc(), CHECK, files, (*status, answer, b""))?;
     }
     Ok(())
 }
@@ -378,4 +649,37 @@ fn a_problem_with_too_many_formulas_is_refused(rt: HostRuntime) -> Result<(), Fa
     let many = times(rt.alloc(), b"fof(a,axiom,p).", MOST_FORMULAS + 1)?;
     let text = b"x.p: 15 TooManyFormulas\n";
     assert_too_large(&rt, rt.alloc(), many.as_slice(), text)
+}
+
+/// Asserts that a proof that begins with this text, so many times, is refused with this text.
+fn assert_too_many(
+    rt: &impl Abort,
+    alloc: Global,
+    (text, count): (&[u8], u32),
+    answer: &[u8],
+) -> Result<(), Fail> {
+    let mut proof = Bytes::from_slice(alloc, b"vernacular 1. take []. ")?;
+    proof.extend_from_slice(times(alloc, text, count)?.as_slice())?;
+    let mut files = MemoryFiles::new(alloc);
+    files.insert(b"x.p", PROBLEM)?;
+    files.insert(b"x.v", proof.as_slice())?;
+    assert_ends(rt, alloc, CHECK, files, (3, b"", answer))
+}
+
+#[test]
+fn a_proof_that_is_too_large_is_refused(rt: HostRuntime) -> Result<(), Fail> {
+    let step: &[u8] = b"mp a1 [] new [] gives p(c). ";
+    assert_too_many(
+        &rt,
+        rt.alloc(),
+        (step, MOST_APPLICATIONS + 1),
+        b"x.v:1835031: 22 ProofTooLarge\n",
+    )?;
+    let split: &[u8] = b"cs 1. case p(c). ";
+    assert_too_many(
+        &rt,
+        rt.alloc(),
+        (split, MOST_SPLITS + 1),
+        b"x.v:3423: 23 CasesTooDeep\n",
+    )
 }

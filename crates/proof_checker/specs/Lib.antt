@@ -1,7 +1,5 @@
-pub mod Ground
-pub mod Unread
-pub mod Tasks
 pub mod Accepted
-pub mod Making
-pub mod Reading
-pub mod Checking
+pub mod Checks
+pub mod Faults
+pub mod Kept
+pub mod Running

@@ -1,18 +1,39 @@
-ghost use Rattle.std.specs.Prelude.{◌≡◌, ℕ, List, length, map};
-ghost use Rattle.logic_core.specs.Truth.{structure};
-ghost use Rattle.logic_core.specs.Problems.{Follows};
+//! Laws over all tasks in which no two forms are cited in the same way.
+
+ghost use Rattle.std.specs.Prelude.{◌≡◌};
+ghost use Rattle.coherent_form.specs.Tasks.{CitedTask};
+ghost use Rattle.proof_text.specs.Values.{Written};
+ghost use Rattle.proof_text.specs.Sizes.{size as script_size, nesting as script_nesting};
+ghost use Rattle.vernacular_tree.specs.Sizes.{size, nesting};
 ghost use Rattle.vernacular_tree.specs.declared.tree.Body.{Body as Tree};
-ghost use Rattle.proof_checker.specs.declared.ground.GroundFormula.{GroundFormula as Formula};
-ghost use Rattle.proof_checker.specs.declared.ground.CitedFact.{CitedFact as Step};
-ghost use Rattle.proof_checker.specs.Ground.{fof_of, goals_of};
-ghost use Rattle.proof_checker.specs.Accepted.{IsAccepted};
+ghost use Rattle.proof_checker.specs.declared.refusal.StepRefusal.{StepRefusal as Refusal};
+ghost use Rattle.proof_checker.specs.Accepted.{IsAcceptedAs};
+ghost use Rattle.proof_text.specs.StandsFor.{AreCitedOnce};
+ghost use Rattle.proof_checker.specs.Faults.{IsFault};
 
-use logic_core::World;
+/// A script is accepted as one body at most.
+pub fn scripts_have_one_body()
+    ensures { (task : CitedTask) (script : Written) (a b : Tree) → AreCitedOnce task
+        → IsAcceptedAs task script a → IsAcceptedAs task script b → a ≡ b }
+{}
 
-/// What is accepted is true: where a proof is accepted, the problem's conjecture is true in each
-/// structure in which its axioms are true, whoever wrote the proof.
-pub fn accepted_follows<W: World>()
-    ensures { (problem : List Formula) (steps : List Step) (body : Tree) (k : List ℕ)
-        → length (goals_of problem) ≡ 1 → IsAccepted problem steps body
-        → Follows (structure (W.element k) (W.holds k) (W.place k)) (map fof_of problem) }
+/// A script has one first fault at most.
+pub fn scripts_have_one_fault()
+    ensures { (task : CitedTask) (script : Written) (a b : Refusal) → AreCitedOnce task
+        → IsFault task script a → IsFault task script b → a ≡ b }
+{}
+
+/// A script with a fault is accepted as no body.
+pub fn faults_are_not_accepted()
+    ensures { (task : CitedTask) (script : Written) (body : Tree) (refusal : Refusal)
+        → AreCitedOnce task
+        → IsAcceptedAs task script body → IsFault task script refusal → ⊥ }
+{}
+
+/// The body that a script is accepted as has as many rule applications, and is nested as deep.
+pub fn accepted_bodies_are_as_large()
+    ensures size { (task : CitedTask) (script : Written) (body : Tree)
+        → IsAcceptedAs task script body → size body ≡ script_size script.body }
+    ensures nesting { (task : CitedTask) (script : Written) (body : Tree)
+        → IsAcceptedAs task script body → nesting body ≡ script_nesting script.body }
 {}

@@ -1,17 +1,22 @@
-//! Checks proofs of ground problems: problems whose formulas are atoms without variables, and
-//! proofs that cite their axioms one after another.
+//! Scripts against tasks: which of them are accepted as a proof, and where the others are refused.
 #![tactic(auto)]
 
-mod check;
-mod ground;
+mod args;
+mod checker;
+mod compare;
+mod fact;
+mod finish;
+mod halt;
+mod labels;
 mod law;
-mod problem;
-mod reader;
-mod words;
+mod refusal;
+mod script_check;
+mod step;
+mod trail;
 
-pub use check::{FirstRefusal, check_first};
-pub use ground::{CitedFact, GroundAtom, GroundFormula};
-pub use law::accepted_follows;
-pub use problem::{NotGround, ground_formulas};
-pub use reader::read_ground_proof;
-pub use words::NotRead;
+pub use law::{
+    accepted_bodies_are_as_large, faults_are_not_accepted, scripts_have_one_body,
+    scripts_have_one_fault,
+};
+pub use refusal::{CheckRefusal, Rule, StepRefusal, Why};
+pub use script_check::check_script;

@@ -9,6 +9,7 @@ pub mod OfKinds
 pub mod Spelled
 pub mod Read
 pub mod ScriptOrRefusal
+pub mod Laws
 pub mod Opened
 pub mod Standing
 pub mod PrintedNames

@@ -5,8 +5,6 @@
 #[cfg(test)]
 mod forms;
 #[cfg(test)]
-mod ground;
-#[cfg(test)]
 mod inclusions;
 #[cfg(test)]
 mod items;
@@ -14,5 +12,7 @@ mod items;
 mod printing;
 #[cfg(test)]
 mod scripts;
+#[cfg(test)]
+mod tasks;
 #[cfg(test)]
 mod trees;

@@ -1,4 +1,4 @@
--- Laws for callers: tokens are a text of one list of items at most, have one refusal at most, and never both.
+-- Laws for callers: tokens are a text of one list of items at most, which may be in a problem, have one refusal at most, and never both.
 use Rattle.std.specs.Prelude.{◌≡◌, ◌⊎◌, List, Ok, Err}
 use Rattle.text_core.proofs.Laws.{exact_value, exact_refusal}
 use Rattle.text_core.specs.Exact.{Exact}
@@ -10,6 +10,7 @@ use Rattle.tptp_grammar.specs.declared.refusal.SyntaxRefusal.TheVariants.{Memory
 use Rattle.tptp_grammar.specs.Spells.{AreItemsOf}
 use Rattle.tptp_grammar.specs.Texts.{SyntaxFault}
 use Rattle.tptp_grammar.proofs.Accepted.{text_no_fault}
+pub use Rattle.tptp_grammar.proofs.Allowed.{items_allowed}
 pub use Rattle.tptp_grammar.proofs.Faults.{fault_same}
 use Rattle.tptp_grammar.proofs.ItemsRead.{one_text}
 pub use Rattle.tptp_grammar.proofs.ItemsOrRefusal.{items_or_refusal}

@@ -7,6 +7,13 @@ returns-in_err-problem-clause-halts g c words second names =
     let same : c.from_residual.result ≡ Err c.in_err-problem.field-0.0 = search rules in
     rw same (c.in_err-problem.ensures.halts words (Some second, names))
 
+pub returns-in-Ok-clause-reads : goal.returns-in-Ok-clause-reads
+returns-in-Ok-clause-reads g c = record {
+  formulas = c.in_ok-problem.problem;
+  reads = c.in_ok-problem.ensures.reads;
+  has = c.in-Ok.ensures.ok;
+}
+
 pub returns : goal.returns
 returns g c = record {
   reads = tt;

@@ -5,7 +5,7 @@ use Rattle.larus_cli.proofs.run.run.Goals as goal
 pub returns-clause-sound : goal.returns-clause-sound
 returns-clause-sound g c k problem proof are done =
     follows_of (structure (g.W.World.element k) (g.W.World.holds k) (g.W.World.place k))
-    (λ problem steps body. c.accepted_follows.ensures problem steps body k) c.answer.ensures.outcome problem proof are done
+    (λ formulas task body. c.proved_task_follows.ensures formulas task body k) c.answer.ensures.outcome problem proof are done
 
 pub returns-clause-printed : goal.returns-clause-printed
 returns-clause-printed g c problem are done = printed_of c.answer.ensures.outcome problem are done
