@@ -1,3 +1,4 @@
 pub mod Saying
+pub mod Standing
 pub mod Outcomes
 pub mod OneOutcome

@@ -20,7 +20,11 @@ use Rattle.include_flat.proofs.Laws.{one_list, never_both, one_refusal}
 use Rattle.coherent_form.specs.declared.task_refusal.TaskRefusal.{TaskRefusal}
 use Rattle.coherent_form.specs.Tasks.{CitedTask, IsTaskOf, IsTaskFault}
 use Rattle.coherent_form.proofs.Laws.{cited_once, one_task, one_task_refusal, task_not_refused}
+use Rattle.proof_text.specs.declared.part.Edition.{Edition}
+use Rattle.proof_text.specs.declared.part.Edition.TheVariants.{First, Second}
 use Rattle.proof_text.specs.declared.refusal.ScriptRefusal.{ScriptRefusal}
+use Rattle.proof_text.specs.Canonical.{script_text as written_text}
+use Rattle.proof_text.specs.ScriptOf.{script_of}
 use Rattle.proof_text.specs.Values.{Written}
 use Rattle.proof_text.specs.Scripts.{IsScriptOf, ProofFault}
 use Rattle.proof_text.proofs.Laws.{scripts_same, refusals_same, script_not_refused}
@@ -29,12 +33,15 @@ use Rattle.proof_checker.specs.Accepted.{IsAcceptedAs}
 use Rattle.proof_text.specs.StandsFor.{AreCitedOnce}
 use Rattle.proof_checker.specs.Faults.{IsFault}
 use Rattle.proof_checker.proofs.Laws.{accepted_one, fault_one, accepted_none}
-use Rattle.larus_cli.specs.Words.{command_of, check_words, names_in, NamesBoth}
+use Rattle.larus_cli.specs.declared.command.Command.{Command}
+use Rattle.larus_cli.specs.declared.command.Command.TheVariants.{ConvertVernacular, ConvertVersion2}
+use Rattle.larus_cli.specs.Words.{command_of, rewrite_words, names_in, NamesBoth}
 use Rattle.larus_cli.specs.Texts.{accepted_text, usage_text, too_long_text, flat_text, formula_text, script_text, step_text}
-use Rattle.larus_cli.specs.Done.{ReadsTask, ReadsBytes, ReadsScript, Done, accepted, converted}
+use Rattle.larus_cli.specs.Read.{ReadsTask, ReadsBytes, ReadsScript}
+use Rattle.larus_cli.specs.Done.{Done, accepted, converted, rewritten}
 use Rattle.larus_cli.specs.Answers.{Answer, done, step_refused, problem_refused, formula_refused, too_long, proof_refused, usage, fault}
 use Rattle.larus_cli.specs.Outcome.{Sinks, PutsTo, Outcome, answered, broken, out_of_memory, IsSettled, EndAlike}
-use Rattle.larus_cli.proofs.Saying.{names_check}
+use Rattle.larus_cli.proofs.Saying.{names_check, names_rewrite}
 use Rattle.larus_cli.proofs.Outcomes.{names_some}
 
 -- where an answer goes, its text, and its status
@@ -51,40 +58,50 @@ on_output text status = record { output = true; text = text; status = status }
 abbrev on_errors : Text → ℕ → End
 on_errors text status = record { output = false; text = text; status = status }
 
--- by the script that the bytes of the second file spell
-abbrev OnScript : CitedTask → End → Written → Type 0
-OnScript task end script = ((body : Body) × IsAcceptedAs task script body × (end ≡ on_output (accepted_text (size body)) 0)) ⊎
-    ((refusal : StepRefusal) × IsFault task script refusal × (end ≡ on_output (step_text refusal) 1))
+-- what is said of an accepted proof, by the command
+abbrev Tells : Type 0
+Tells = CitedTask → Body → Text
 
--- two ends by the script are one
-one_by_script : (task : CitedTask) (script : Written) (a b : End) → AreCitedOnce task → OnScript task a script → OnScript task b script → a ≡ b
-one_by_script task script a b once (inl (body, is, e)) (inl (other, also, f)) =
-    e ∙ ap (λ tree. on_output (accepted_text (size tree)) 0) (accepted_one task once script body other is also) ∙ sym f
-one_by_script task script a b once (inl (body, is, e)) (inr (refusal, because, f)) = absurd (accepted_none task once script body refusal is because)
-one_by_script task script a b once (inr (refusal, because, e)) (inl (body, is, f)) = absurd (accepted_none task once script body refusal is because)
-one_by_script task script a b once (inr (refusal, is, e)) (inr (other, also, f)) =
-    e ∙ ap (λ r. on_output (step_text r) 1) (fault_one task once script refusal other is also) ∙ sym f
+abbrev told_by : Option Command → Tells
+told_by (Some ConvertVernacular) task body = written_text (script_of First task body)
+told_by (Some ConvertVersion2) task body = written_text (script_of Second task body)
+told_by _ task body = accepted_text (size body)
 
--- by the bytes of the second file
-abbrev OnBytes : Text → CitedTask → End → Text → Type 0
-OnBytes name task end bytes = ((refusal : ScriptRefusal) × ProofFault bytes refusal × (end ≡ on_errors (name ++ script_text refusal) 3)) ⊎
-    ((script : Written) × IsScriptOf bytes script × OnScript task end script)
+module _ (tell : Tells) where
+  -- by the script that the bytes of the second file spell
+  abbrev OnScript : CitedTask → End → Written → Type 0
+  OnScript task end script = ((body : Body) × IsAcceptedAs task script body × (end ≡ on_output (tell task body) 0)) ⊎
+      ((refusal : StepRefusal) × IsFault task script refusal × (end ≡ on_output (step_text refusal) 1))
 
--- two ends by the bytes of the second file are one
-one_by_bytes : (name : Text) (task : CitedTask) (bytes : Text) (a b : End) → AreCitedOnce task → OnBytes name task a bytes →
-    OnBytes name task b bytes → a ≡ b
-one_by_bytes name task bytes a b once (inl (refusal, is, e)) (inl (other, also, f)) =
-    e ∙ ap (λ r. on_errors (name ++ script_text r) 3) (refusals_same bytes refusal other is also) ∙ sym f
-one_by_bytes name task bytes a b once (inl (refusal, because, e)) (inr (script, is, f)) = absurd (script_not_refused bytes script refusal is because)
-one_by_bytes name task bytes a b once (inr (script, is, e)) (inl (refusal, because, f)) = absurd (script_not_refused bytes script refusal is because)
-one_by_bytes name task bytes a b once (inr (script, is, e)) (inr (other, also, f)) =
-    one_by_script task script a b once e (subst (OnScript task b) (scripts_same bytes other script also is) f)
+  -- two ends by the script are one
+  one_by_script : (task : CitedTask) (script : Written) (a b : End) → AreCitedOnce task → OnScript task a script → OnScript task b script → a ≡ b
+  one_by_script task script a b once (inl (body, is, e)) (inl (other, also, f)) =
+      e ∙ ap (λ tree. on_output (tell task tree) 0) (accepted_one task once script body other is also) ∙ sym f
+  one_by_script task script a b once (inl (body, is, e)) (inr (refusal, because, f)) = absurd (accepted_none task once script body refusal is because)
+  one_by_script task script a b once (inr (refusal, because, e)) (inl (body, is, f)) = absurd (accepted_none task once script body refusal is because)
+  one_by_script task script a b once (inr (refusal, is, e)) (inr (other, also, f)) =
+      e ∙ ap (λ r. on_output (step_text r) 1) (fault_one task once script refusal other is also) ∙ sym f
 
-module _ (held : Held) where
+  -- by the bytes of the second file
+  abbrev OnBytes : Text → CitedTask → End → Text → Type 0
+  OnBytes name task end bytes = ((refusal : ScriptRefusal) × ProofFault bytes refusal × (end ≡ on_errors (name ++ script_text refusal) 3)) ⊎
+      ((script : Written) × IsScriptOf bytes script × OnScript task end script)
+
+  -- two ends by the bytes of the second file are one
+  one_by_bytes : (name : Text) (task : CitedTask) (bytes : Text) (a b : End) → AreCitedOnce task → OnBytes name task a bytes →
+      OnBytes name task b bytes → a ≡ b
+  one_by_bytes name task bytes a b once (inl (refusal, is, e)) (inl (other, also, f)) =
+      e ∙ ap (λ r. on_errors (name ++ script_text r) 3) (refusals_same bytes refusal other is also) ∙ sym f
+  one_by_bytes name task bytes a b once (inl (refusal, because, e)) (inr (script, is, f)) = absurd (script_not_refused bytes script refusal is because)
+  one_by_bytes name task bytes a b once (inr (script, is, e)) (inl (refusal, because, f)) = absurd (script_not_refused bytes script refusal is because)
+  one_by_bytes name task bytes a b once (inr (script, is, e)) (inr (other, also, f)) =
+      one_by_script task script a b once e (subst (OnScript task b) (scripts_same bytes other script also is) f)
+
+module _ (tell : Tells) (held : Held) where
   -- by the second file
   abbrev OnSecond : Text → End → CitedTask → Type 0
   OnSecond name end task = (IsLong held name MOST_FILE_BYTES × (end ≡ on_errors (name ++ too_long_text) 3)) ⊎
-      ((bytes : Text) × (finite.get held name ≡ Some bytes) × (length bytes ≤ MOST_FILE_BYTES) × OnBytes name task end bytes)
+      ((bytes : Text) × (finite.get held name ≡ Some bytes) × (length bytes ≤ MOST_FILE_BYTES) × OnBytes tell name task end bytes)
 
   -- no file is both too long and within the bound
   not_long : (name bytes : Text) → IsLong held name MOST_FILE_BYTES → finite.get held name ≡ Some bytes → length bytes ≤ MOST_FILE_BYTES → ⊥
@@ -97,7 +114,7 @@ module _ (held : Held) where
   one_by_second name task a b once (inl (long, e)) (inr (bytes, get, within, f)) = absurd (not_long name bytes long get within)
   one_by_second name task a b once (inr (bytes, get, within, e)) (inl (long, f)) = absurd (not_long name bytes long get within)
   one_by_second name task a b once (inr (bytes, get, within, e)) (inr (others, also, within', f)) =
-      one_by_bytes name task bytes a b once e (subst (OnBytes name task b) (value_same (sym also ∙ get)) f)
+      one_by_bytes tell name task bytes a b once e (subst (OnBytes tell name task b) (value_same (sym also ∙ get)) f)
 
   -- by the task of the problem
   abbrev OnTask : Text → List Fof → End → Type 0
@@ -139,10 +156,11 @@ module _ (held : Held) where
   one_by_problem problem second a b (inr (flat, is, e)) (inr (other, also, f)) =
       one_by_formulas second flat a b e (subst (OnFormulas second b) (one_list held problem flat other is also) f)
 
+module _ (held : Held) where
   -- by the words
   abbrev OnWords : List Text → End → Type 0
   OnWords words end = ((command_of words ≡ None) × (end ≡ on_errors usage_text 64)) ⊎
-      ((problem : Text) × (second : Option Text) × (names_in (command_of words) words ≡ Some (problem, second)) × OnProblem end problem second)
+      ((problem : Text) × (second : Option Text) × (names_in (command_of words) words ≡ Some (problem, second)) × OnProblem (told_by (command_of words)) held end problem second)
 
   -- two ends by the words are one
   one_by_words : (words : List Text) (a b : End) → OnWords words a → OnWords words b → a ≡ b
@@ -151,43 +169,57 @@ module _ (held : Held) where
   one_by_words words a b (inr (problem, second, names, e)) (inl (none, f)) = absurd (names_some words _ names none)
   one_by_words words a b (inr (problem, second, names, e)) (inr (other, another, also, f)) =
       let same = value_same (sym also ∙ names) in
-      one_by_problem problem second a b e (subst (λ (n : Text × Option Text). OnProblem b n.0 n.1) same f)
+      one_by_problem (told_by (command_of words)) held problem second a b e (subst (λ (n : Text × Option Text). OnProblem (told_by (command_of words)) held b n.0 n.1) same f)
 
   module _ (words : List Text) (files later : Known) (told : files.held ≡ Some held) where
+    abbrev tell : Tells
+    tell = told_by (command_of words)
+
     -- what is said where the files tell what they hold
     here : (P : Held → Type 0) → IfSome files.held P → P held
     here P is = subst (λ o. IfSome o P) told is
 
     -- an end by the second file of words that name it, where the problem has a task
     by_task : (problem name : Text) (task : CitedTask) (end : End) → NamesBoth words problem name →
-        ReadsTask files problem task → OnSecond name end task → OnWords words end
+        ReadsTask files problem task → OnSecond tell held name end task → OnWords words end
     by_task problem name task end names read is =
         inr (problem, Some name, names, inr (read.formulas, here (λ h. IsFlat h problem read.formulas) read.reads, inr (task, read.has, is)))
 
     -- an end by the bytes of that file
     by_bytes : (problem name bytes : Text) (task : CitedTask) (end : End) → NamesBoth words problem name →
-        ReadsBytes files problem name task bytes → OnBytes name task end bytes → OnWords words end
+        ReadsBytes files problem name task bytes → OnBytes tell name task end bytes → OnWords words end
     by_bytes problem name bytes task end names read is = by_task problem name task end names read.reads
         (inr (bytes, here (λ h. finite.get h name ≡ Some bytes) read.holds.held, read.holds.within, is))
 
     -- an end by the script that they spell
-    by_script : (problem proof : Text) (task : CitedTask) (script : Written) (end : End) → words ≡ check_words problem proof →
-        ReadsScript files problem proof task script → OnScript task end script → OnWords words end
-    by_script problem proof task script end are read is =
-        by_bytes problem proof read.bytes task end (names_check words problem proof are) read.reads (inr (script, read.spells, is))
+    by_script : (problem proof : Text) (task : CitedTask) (script : Written) (end : End) → NamesBoth words problem proof →
+        ReadsScript files problem proof task script → OnScript tell task end script → OnWords words end
+    by_script problem proof task script end names read is =
+        by_bytes problem proof read.bytes task end names read.reads (inr (script, read.spells, is))
+
+    -- the words of a proof's conversion tell the text of its version
+    told_rewriting : (edition : Edition) (problem proof : Text) (task : CitedTask) (body : Body) → words ≡ rewrite_words edition problem proof →
+        written_text (script_of edition task body) ≡ tell task body
+    told_rewriting First problem proof task body are = ap (λ ws. told_by (command_of ws) task body) (sym are)
+    told_rewriting Second problem proof task body are = ap (λ ws. told_by (command_of ws) task body) (sym are)
 
     -- what is done is an end by the words, on the output with status 0
     by_done : (text : Text) → Done words files text → OnWords words (on_output text 0)
-    by_done _ (accepted problem proof task script body are reads is) = by_script problem proof task script _ are reads (inl (body, is, refl))
+    by_done _ (accepted problem proof task script body are read) =
+        by_script problem proof task script _ (names_check words problem proof are) read.reads
+        (inl (body, read.accepted, ap (λ ws. on_output (told_by (command_of ws) task body) 0) (sym are)))
     by_done _ (converted problem text formulas are reads is back) =
         let names = subst (λ ws. names_in (command_of ws) ws ≡ Some (problem, None)) (sym are) refl in
         inr (problem, None, names, inr (formulas, here (λ h. IsFlat h problem formulas) reads, ap (λ t. on_output t 0) is))
+    by_done _ (rewritten edition problem proof text task script body are read is back) =
+        by_script problem proof task script _ (names_rewrite edition words problem proof are) read.reads
+        (inl (body, read.accepted, ap (λ t. on_output t 0) (is ∙ told_rewriting edition problem proof task body are)))
 
     -- an answer is an end by the words, unless a fetch failed
     by_row : {output : Bool} {text : Text} {status : ℕ} → Answer words files later output text status → status ≢ 66 →
         OnWords words (record { output = output; text = text; status = status })
     by_row (done text row) some = by_done text row
-    by_row (step_refused problem proof task script refusal are reads is) some = by_script problem proof task script _ are reads (inr (refusal, is, refl))
+    by_row (step_refused problem second task script refusal names reads is) some = by_script problem second task script _ names reads (inr (refusal, is, refl))
     by_row (problem_refused problem file why names is inner) some =
         inr (problem, names.0, names.1, inl (file, why, here (λ h. IsFlatRefused h problem file why) is, refl))
     by_row (formula_refused problem second formulas refusal names reads is) some =

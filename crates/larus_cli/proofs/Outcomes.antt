@@ -15,10 +15,12 @@ use Rattle.io_core.specs.Stream.{Stream, Puts, Breaks}
 use Rattle.include_flat.specs.Flattened.{IsFlat}
 use Rattle.include_flat.proofs.Laws.{flat_allowed}
 use Rattle.coherent_form.specs.Tasks.{CitedTask, IsTaskOf, proof_task}
-use Rattle.larus_cli.specs.Words.{command_of, check_words, convert_words, names_in}
-use Rattle.larus_cli.specs.Done.{Done, accepted, converted}
+use Rattle.proof_text.specs.declared.part.Edition.{Edition}
+use Rattle.proof_text.specs.declared.part.Edition.TheVariants.{First, Second}
+use Rattle.larus_cli.specs.Words.{command_of, check_words, convert_words, rewrite_words, names_in}
+use Rattle.larus_cli.specs.Done.{Done, accepted, converted, rewritten}
 use Rattle.larus_cli.specs.Follows.{ProblemFollows}
-use Rattle.larus_cli.specs.Printed.{ReadsBack, ProblemPrinted}
+use Rattle.larus_cli.specs.Printed.{ReadsBack, ProblemPrinted, ProofPrinted}
 use Rattle.larus_cli.specs.Answers.{IsAsked, of_problem, as_second, Answer, done, step_refused, problem_refused, formula_refused}
 use Rattle.larus_cli.specs.Answers.{too_long, proof_refused, usage, fault}
 use Rattle.larus_cli.specs.Outcome.{Sinks, sinks, PutsTo, Outcome, answered, broken, out_of_memory}
@@ -57,6 +59,23 @@ check_same words problem proof other another e f = cc
 apart : (words : List Text) (problem proof other : Text) → words ≡ check_words problem proof → words ≡ convert_words other → ⊥
 apart words problem proof other e f = cc
 
+-- the words of a check are fewer than those of a proof's conversion, and so are those of a problem's
+longer : (edition : Edition) (words : List Text) (problem proof other another : Text) → words ≡ check_words problem proof →
+    words ≡ rewrite_words edition other another → ⊥
+longer edition words problem proof other another e f = cc
+
+longer_converted : (edition : Edition) (words : List Text) (problem other another : Text) → words ≡ convert_words problem →
+    words ≡ rewrite_words edition other another → ⊥
+longer_converted edition words problem other another e f = cc
+
+-- the words of a proof's conversion tell the version, the problem and the proof
+rewrite_same : (edition version : Edition) (words : List Text) (problem proof other another : Text) → words ≡ rewrite_words edition problem proof →
+    words ≡ rewrite_words version other another → (version ≡ edition) × ((other ≡ problem) × (another ≡ proof))
+rewrite_same First First words problem proof other another e f = (refl, (cc, cc))
+rewrite_same First Second words problem proof other another e f = absurd cc
+rewrite_same Second First words problem proof other another e f = absurd cc
+rewrite_same Second Second words problem proof other another e f = (refl, (cc, cc))
+
 -- the words of a conversion tell the problem
 convert_same : (words : List Text) (problem other : Text) → words ≡ convert_words problem → words ≡ convert_words other → other ≡ problem
 convert_same words problem other e f = cc
@@ -68,11 +87,12 @@ pub follows_of : (s : Structure) → Law s → {words : List Text} {files later 
 follows_of s law {words = words} {files = files} outcome problem proof are e = by (done_of outcome e).1
   where
     by : {text : Text} → Done words files text → ProblemFollows s files problem
-    by (accepted other another task script body also reads is) =
-        let read = reads.reads.reads in
+    by (accepted other another task script body also reads) =
+        let read = reads.reads.reads.reads in
         subst (ProblemFollows s files) (check_same words problem proof other another are also)
-        (flat_follows s files.held other read.formulas read.reads (λ allowed. law read.formulas task body allowed read.has is.proves))
+        (flat_follows s files.held other read.formulas read.reads (λ allowed. law read.formulas task body allowed read.has reads.accepted.proves))
     by (converted other text formulas also reads is back) = absurd (apart words problem proof other are also)
+    by (rewritten edition other another text task script body also reads is back) = absurd (longer edition words problem proof other another are also)
 
 -- where a text is printed that reads back as the formulas of a problem, the problem is printed
 flat_printed : (held : Option Held) (name text : Text) (formulas : List Fof) (old new : Stream) → IfSome held (λ h. IsFlat h name formulas) →
@@ -87,10 +107,26 @@ pub printed_of : {words : List Text} {files later : Known} {old new : Sinks} {st
 printed_of {words = words} {files = files} {old = old} {new = new} outcome problem are e = by (done_of outcome e).1 (done_of outcome e).2
   where
     by : {text : Text} → Done words files text → Puts old.out new.out text → ProblemPrinted files problem old.out new.out
-    by (accepted other another task script body also reads is) put = absurd (apart words other another problem also are)
+    by (accepted other another task script body also reads) put = absurd (apart words other another problem also are)
     by (converted other text formulas also reads is back) put =
         subst (λ p. ProblemPrinted files p old.out new.out) (convert_same words problem other are also)
         (flat_printed files.held other text formulas old.out new.out reads put back)
+    by (rewritten edition other another text task script body also reads is back) put =
+        absurd (longer_converted edition words problem other another are also)
+
+-- what is printed for a converted proof reads back
+pub rewritten_of : {words : List Text} {files later : Known} {old new : Sinks} {status : ℕ} → Outcome words files later old new status →
+    (edition : Edition) (problem proof : Text) → words ≡ rewrite_words edition problem proof → status ≡ 0 →
+    ProofPrinted edition files problem proof old.out new.out
+rewritten_of {words = words} {files = files} {old = old} {new = new} outcome edition problem proof are e = by (done_of outcome e).1 (done_of outcome e).2
+  where
+    by : {text : Text} → Done words files text → Puts old.out new.out text → ProofPrinted edition files problem proof old.out new.out
+    by (accepted other another task script body also reads) put = absurd (longer edition words other another problem proof also are)
+    by (converted other text formulas also reads is back) put = absurd (longer_converted edition words other problem proof also are)
+    by (rewritten version other another text task script body also reads is back) put =
+        let same = rewrite_same edition version words problem proof other another are also in
+        subst (λ (k : Edition × (Text × Text)). ProofPrinted k.0 files k.1.0 k.1.1 old.out new.out) (λ i. (same.0 i, (same.1.0 i, same.1.1 i)))
+        (record { task = task; script = script; body = body; reads = reads; text = text; puts = put; back = back })
 
 -- words that are a check, or that name files, are a command
 check_some : (words : List Text) (problem proof : Text) → words ≡ check_words problem proof → command_of words ≡ None → ⊥
@@ -100,14 +136,20 @@ check_some words problem proof are = subst (λ ws. command_of ws ≡ None → �
 convert_some : (words : List Text) (problem : Text) → words ≡ convert_words problem → command_of words ≡ None → ⊥
 convert_some words problem are = subst (λ ws. command_of ws ≡ None → ⊥) (sym are) (λ none. cc)
 
+-- words that are a proof's conversion are a command
+rewrite_some : (edition : Edition) (words : List Text) (problem proof : Text) → words ≡ rewrite_words edition problem proof → command_of words ≡ None → ⊥
+rewrite_some First words problem proof are = subst (λ ws. command_of ws ≡ None → ⊥) (sym are) (λ none. cc)
+rewrite_some Second words problem proof are = subst (λ ws. command_of ws ≡ None → ⊥) (sym are) (λ none. cc)
+
 -- words that name files are a command
 pub names_some : (words : List Text) (names : Text × Option Text) → names_in (command_of words) words ≡ Some names → command_of words ≡ None → ⊥
 names_some words names are none = let never = rw none at are in cc
 
 -- words by which something is done are a command
 done_some : {words : List Text} {files : Known} {text : Text} → Done words files text → command_of words ≡ None → ⊥
-done_some {words = words} (accepted problem proof task script body are reads is) none = check_some words problem proof are none
+done_some {words = words} (accepted problem proof task script body are reads) none = check_some words problem proof are none
 done_some {words = words} (converted problem text formulas are reads is back) none = convert_some words problem are none
+done_some {words = words} (rewritten edition problem proof text task script body are reads is back) none = rewrite_some edition words problem proof are none
 
 -- words that ask for a file are a command
 asked_some : {words : List Text} {files : Known} {file : Text} → IsAsked words files file → command_of words ≡ None → ⊥
@@ -118,7 +160,7 @@ asked_some {words = words} (as_second problem task names reads) none = names_som
 usage_row : {words : List Text} {files later : Known} {output : Bool} {text : Text} {status : ℕ} → Answer words files later output text status →
     command_of words ≡ None → status ≡ 64
 usage_row (done text row) none = absurd (done_some row none)
-usage_row {words = words} (step_refused problem proof task script refusal are reads is) none = absurd (check_some words problem proof are none)
+usage_row {words = words} (step_refused problem second task script refusal names reads is) none = absurd (names_some words _ names none)
 usage_row {words = words} (problem_refused problem file why names told inner) none = absurd (names_some words _ names.1 none)
 usage_row {words = words} (formula_refused problem second formulas refusal names reads is) none = absurd (names_some words _ names none)
 usage_row {words = words} (too_long problem second task names reads long) none = absurd (names_some words _ names none)

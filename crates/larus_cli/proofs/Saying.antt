@@ -17,14 +17,31 @@ use Rattle.coherent_form.specs.Tasks.{CitedTask, IsTaskFault}
 use Rattle.proof_text.specs.declared.refusal.ScriptRefusal.{ScriptRefusal}
 use Rattle.proof_text.specs.declared.refusal.ScriptRefusal.TheVariants as script
 use Rattle.proof_text.specs.Scripts.{ProofFault}
-use Rattle.larus_cli.specs.Words.{check_words, convert_words, NamesProblem, NamesBoth}
-use Rattle.larus_cli.specs.Done.{ReadsProblem, ReadsTask, ReadsBytes}
+use Rattle.proof_text.specs.declared.part.Edition.{Edition}
+use Rattle.proof_text.specs.declared.part.Edition.TheVariants.{First, Second}
+use Rattle.larus_cli.specs.declared.judge.Wanted.{Wanted}
+use Rattle.larus_cli.specs.declared.judge.Wanted.TheVariants.{Size, Script}
+use Rattle.larus_cli.specs.Words.{check_words, convert_words, rewrite_words, NamesProblem, NamesBoth}
+use Rattle.larus_cli.specs.Read.{ReadsProblem, ReadsTask, ReadsBytes}
+use Rattle.larus_cli.specs.Reports.{words_for}
 use Rattle.larus_cli.specs.Answers.{Answer, of_problem, as_second, problem_refused, formula_refused, too_long, proof_refused, fault}
 use Rattle.larus_cli.specs.Texts.{flat_text, formula_text, fault_text, too_long_text, script_text}
 
 -- the files that the words of a command name
 pub names_check : (words : List Text) (problem proof : Text) → words ≡ check_words problem proof → NamesBoth words problem proof
 names_check words problem proof are = subst (λ ws. NamesBoth ws problem proof) (sym are) refl
+
+-- the files that the words of a proof's conversion name
+pub names_rewrite : (edition : Edition) (words : List Text) (problem proof : Text) → words ≡ rewrite_words edition problem proof →
+    NamesBoth words problem proof
+names_rewrite First words problem proof are = subst (λ ws. NamesBoth ws problem proof) (sym are) refl
+names_rewrite Second words problem proof are = subst (λ ws. NamesBoth ws problem proof) (sym are) refl
+
+-- the files that the words name that want something of a proof
+pub names_for : (wanted : Wanted) (words : List Text) (problem proof : Text) → words ≡ words_for wanted problem proof →
+    NamesBoth words problem proof
+names_for Size words problem proof are = names_check words problem proof are
+names_for (Script edition) words problem proof are = names_rewrite edition words problem proof are
 
 -- the file that the words of a conversion name
 pub names_convert : (words : List Text) (problem : Text) → words ≡ convert_words problem → NamesProblem words problem

@@ -15,10 +15,11 @@ use Rattle.proof_text.specs.Values.{Written}
 use Rattle.proof_text.specs.Scripts.{ProofFault}
 use Rattle.proof_checker.specs.declared.refusal.StepRefusal.{StepRefusal}
 use Rattle.proof_checker.specs.Faults.{IsFault}
-use Rattle.larus_cli.specs.Words.{command_of, check_words, NamesProblem, NamesBoth}
+use Rattle.larus_cli.specs.Words.{command_of, NamesProblem, NamesBoth}
 use Rattle.larus_cli.specs.Texts.{fault_text, too_long_text, flat_text, formula_text}
 use Rattle.larus_cli.specs.Texts.{script_text, step_text, usage_text}
-use Rattle.larus_cli.specs.Done.{ReadsProblem, ReadsTask, ReadsBytes, ReadsScript, Done}
+use Rattle.larus_cli.specs.Read.{ReadsProblem, ReadsTask, ReadsBytes, ReadsScript}
+use Rattle.larus_cli.specs.Done.{Done}
 
 -- the files are asked for this one: by the walk over the problem, or as the second file
 pub data IsAsked (words : List Text) (files : Known) (file : Text) : Type 0 where
@@ -32,9 +33,9 @@ pub data Answer (words : List Text) (files later : Known) : Bool → Text → �
   -- 0: the command is done
   done : (text : Text) → Done words files text → Answer words files later true text 0
   -- 1: a step of the proof is refused
-  step_refused : (problem proof : Text) (task : CitedTask) (script : Written)
-      (refusal : StepRefusal) → words ≡ check_words problem proof →
-      ReadsScript files problem proof task script → IsFault task script refusal →
+  step_refused : (problem second : Text) (task : CitedTask) (script : Written)
+      (refusal : StepRefusal) → NamesBoth words problem second →
+      ReadsScript files problem second task script → IsFault task script refusal →
       Answer words files later true (step_text refusal) 1
   -- 2: a file of the problem is refused
   problem_refused : (problem file : Text) (why : FlatWhy) → NamesProblem words problem →

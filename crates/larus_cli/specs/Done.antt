@@ -1,53 +1,36 @@
--- The answers with status 0, which go to the output; and what is read for them.
-use Rattle.std.specs.Prelude.{◌≡◌, List, IfSome}
-use Rattle.text_core.specs.declared.limits.TheConstants.{MOST_FILE_BYTES}
+-- The answers with status 0, which go to the output.
+use Rattle.std.specs.Prelude.{◌≡◌, List}
 use Rattle.text_core.specs.Names.{Text}
 use Rattle.logic_core.specs.declared.problem.Fof.{Fof}
 use Rattle.vernacular_tree.specs.declared.tree.Body.{Body}
 use Rattle.vernacular_tree.specs.Sizes.{size}
 use Rattle.io_core.specs.Known.{Known}
-use Rattle.io_core.specs.Fetched.{Holds}
 use Rattle.tptp_printer.specs.Canonical.{problem_text}
-use Rattle.include_flat.specs.Flattened.{IsFlat}
-use Rattle.coherent_form.specs.Tasks.{CitedTask, IsTaskOf}
+use Rattle.coherent_form.specs.Tasks.{CitedTask}
+use Rattle.proof_text.specs.declared.part.Edition.{Edition}
+use Rattle.proof_text.specs.Canonical.{script_text}
+use Rattle.proof_text.specs.ScriptOf.{script_of}
 use Rattle.proof_text.specs.Values.{Written}
-use Rattle.proof_text.specs.Scripts.{IsScriptOf}
-use Rattle.proof_checker.specs.Accepted.{IsAcceptedAs}
 use Rattle.larus_cli.specs.Texts.{accepted_text}
-use Rattle.larus_cli.specs.Words.{check_words, convert_words}
-use Rattle.larus_cli.specs.Printed.{ReadsBack}
-
--- the problem in this file, with the files that it includes, is flat with these formulas, where the
--- files tell what they hold
-abbrev pub ReadsProblem : Known → Text → List Fof → Type 0
-ReadsProblem files name formulas = IfSome files.held (λ held. IsFlat held name formulas)
-
--- the problem in this file has this task
-pub record ReadsTask (files : Known) (name : Text) (task : CitedTask) : Type 0 where
-  pub formulas : List Fof
-  pub reads : ReadsProblem files name formulas
-  pub has : IsTaskOf formulas task
-
--- the problem in this file has this task, and the second file has these bytes
-pub record ReadsBytes (files : Known) (problem second : Text) (task : CitedTask) (bytes : Text)
-    : Type 0 where
-  pub reads : ReadsTask files problem task
-  pub holds : Holds files second bytes MOST_FILE_BYTES
-
--- the problem in this file has this task, and the bytes of the second file spell this script
-pub record ReadsScript (files : Known) (problem second : Text) (task : CitedTask)
-    (script : Written) : Type 0 where
-  pub bytes : Text
-  pub reads : ReadsBytes files problem second task bytes
-  pub spells : IsScriptOf bytes script
+use Rattle.larus_cli.specs.Words.{check_words, convert_words, rewrite_words}
+use Rattle.larus_cli.specs.Read.{ReadsProblem, ReadsProof}
+use Rattle.larus_cli.specs.Printed.{ReadsBack, ReadsBackAs}
 
 -- the text is what is printed, with status 0, for words that ask for it
 pub data Done (words : List Text) (files : Known) : Text → Type 0 where
   -- the script is accepted as a body, a proof of the problem's task; its size is told
   accepted : (problem proof : Text) (task : CitedTask) (script : Written) (body : Body) →
-      words ≡ check_words problem proof → ReadsScript files problem proof task script →
-      IsAcceptedAs task script body → Done words files (accepted_text (size body))
+      words ≡ check_words problem proof → ReadsProof files problem proof task script body →
+      Done words files (accepted_text (size body))
   -- the text is the canonical one of the problem, and reads back as its formulas
   converted : (problem text : Text) (formulas : List Fof) → words ≡ convert_words problem →
       ReadsProblem files problem formulas → text ≡ problem_text formulas → ReadsBack text formulas →
+      Done words files text
+  -- the script is accepted as a body; the text is the canonical one of the script, of the version
+  -- that is asked for, which stands for the body with printed names, and reads back as a script
+  -- that is accepted as the same body
+  rewritten : (edition : Edition) (problem proof text : Text) (task : CitedTask)
+      (script : Written) (body : Body) → words ≡ rewrite_words edition problem proof →
+      ReadsProof files problem proof task script body →
+      text ≡ script_text (script_of edition task body) → ReadsBackAs edition text task body →
       Done words files text

@@ -1,6 +1,7 @@
 pub mod Words
 pub mod Texts
 pub mod Follows
+pub mod Read
 pub mod Printed
 pub mod Done
 pub mod Answers

@@ -8,8 +8,11 @@ use Rattle.larus_cli.specs.declared.report.Report.{Report}
 use Rattle.larus_cli.specs.declared.report.Report.TheVariants.{Accepted, Refused, Converted, FileFault}
 use Rattle.larus_cli.specs.declared.report.Report.TheVariants.{ProblemFile, ProblemFormula, ProofFile}
 use Rattle.larus_cli.specs.declared.reply.Reply.{Reply}
-use Rattle.larus_cli.specs.declared.decide.Halt.{Halt}
-use Rattle.larus_cli.specs.declared.decide.Halt.TheVariants as halt
+use Rattle.larus_cli.specs.declared.reading.Halt.{Halt}
+use Rattle.larus_cli.specs.declared.reading.Halt.TheVariants as halt
+use Rattle.larus_cli.specs.declared.judge.Wanted.{Wanted}
+use Rattle.larus_cli.specs.declared.judge.Wanted.TheVariants.{Size, Script}
+use Rattle.larus_cli.specs.Words.{check_words, rewrite_words}
 use Rattle.larus_cli.specs.Texts.{fault_text, too_long_text, flat_text}
 use Rattle.larus_cli.specs.Texts.{formula_text, script_text, step_text, accepted_text}
 use Rattle.larus_cli.specs.Answers.{Answer}
@@ -46,3 +49,8 @@ Halts words files later halt.Memory = Unit {0}
 abbrev pub Decides : List Text → Known → Known → Result Report Halt → Type 0
 Decides words files later (Ok report) = IsAnswer words files later report
 Decides words files later (Err ending) = Halts words files later ending
+
+-- the words that want this of an accepted proof
+abbrev pub words_for : Wanted → Text → Text → List Text
+words_for Size problem proof = check_words problem proof
+words_for (Script edition) problem proof = rewrite_words edition problem proof

@@ -130,4 +130,5 @@ step_text refusal = codes "refused " ++ decimal refusal.step ++ codes " " ++
 
 abbrev pub usage_text : Text
 usage_text = ended (codes "44 Usage") ++ ended (codes "check PROBLEM PROOF") ++
-    ended (codes "convert problem PROBLEM")
+    ended (codes "convert problem PROBLEM") ++ ended (codes "convert vernacular PROBLEM PROOF") ++
+    ended (codes "convert version2 PROBLEM PROOF")

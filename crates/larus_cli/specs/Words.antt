@@ -2,15 +2,24 @@
 use Rattle.std.specs.Prelude.{◌≡◌, if◌then◌else◌, List, [], ◌∷◌, Option, Some, None, codes}
 use Rattle.std.specs.Str.{bytes_eq}
 use Rattle.text_core.specs.Names.{Text}
+use Rattle.proof_text.specs.declared.part.Edition as Edition
+use Rattle.proof_text.specs.declared.part.Edition.TheVariants.{First, Second}
 use Rattle.larus_cli.specs.declared.command.Command.{Command}
-use Rattle.larus_cli.specs.declared.command.Command.TheVariants.{Check, ConvertProblem}
+use Rattle.larus_cli.specs.declared.command.Command.TheVariants.{Check, ConvertProblem, ConvertVernacular, ConvertVersion2}
 
--- `check PROBLEM PROOF` and `convert problem PROBLEM`, with any words for the names; all other
--- lists are no command
+-- the conversion of a proof that a word asks for
+abbrev pub conversion_of : Text → Option Command
+conversion_of word = if bytes_eq word (codes "vernacular") then Some ConvertVernacular else
+    (if bytes_eq word (codes "version2") then Some ConvertVersion2 else None)
+
+-- `check PROBLEM PROOF`, `convert problem PROBLEM`, `convert vernacular PROBLEM PROOF` and
+-- `convert version2 PROBLEM PROOF`, with any words for the names; all other lists are no command
 abbrev pub command_of : List Text → Option Command
 command_of (first ∷ second ∷ third ∷ []) = if bytes_eq first (codes "check") then Some Check else
     (if bytes_eq first (codes "convert")
     then (if bytes_eq second (codes "problem") then Some ConvertProblem else None) else None)
+command_of (first ∷ second ∷ third ∷ fourth ∷ []) =
+    if bytes_eq first (codes "convert") then conversion_of second else None
 command_of _ = None
 
 abbrev pub check_words : Text → Text → List Text
@@ -19,10 +28,28 @@ check_words problem proof = codes "check" ∷ problem ∷ proof ∷ []
 abbrev pub convert_words : Text → List Text
 convert_words problem = codes "convert" ∷ codes "problem" ∷ problem ∷ []
 
+-- the word of a version
+abbrev pub edition_word : Edition.Edition → Text
+edition_word First = codes "vernacular"
+edition_word Second = codes "version2"
+
+-- the command that prints an accepted proof in a version, and its words
+abbrev pub rewriting : Edition.Edition → Command
+rewriting First = ConvertVernacular
+rewriting Second = ConvertVersion2
+
+abbrev pub rewrite_words : Edition.Edition → Text → Text → List Text
+rewrite_words edition problem proof =
+    codes "convert" ∷ edition_word edition ∷ problem ∷ proof ∷ []
+
 -- the problem's file, and the second file where there is one
 abbrev pub names_in : Option Command → List Text → Option (Text × Option Text)
 names_in (Some Check) (first ∷ problem ∷ proof ∷ []) = Some (problem, Some proof)
 names_in (Some ConvertProblem) (first ∷ second ∷ problem ∷ []) = Some (problem, None)
+names_in (Some ConvertVernacular) (first ∷ second ∷ problem ∷ proof ∷ []) =
+    Some (problem, Some proof)
+names_in (Some ConvertVersion2) (first ∷ second ∷ problem ∷ proof ∷ []) =
+    Some (problem, Some proof)
 names_in _ _ = None
 
 abbrev pub names_of : List Text → Option (Text × Option Text)

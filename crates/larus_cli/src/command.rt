@@ -1,6 +1,7 @@
 ghost use Rattle.std.specs.Prelude.{◌≡◌, if◌then◌else◌, Some, None, codes};
 ghost use Rattle.std.specs.Str.{bytes_eq};
-ghost use Rattle.larus_cli.specs.Words.{command_of, check_words, convert_words};
+ghost use Rattle.proof_text.specs.declared.part.Edition.{Edition};
+ghost use Rattle.larus_cli.specs.Words.{command_of, conversion_of, check_words, convert_words, rewriting, rewrite_words};
 
 use logic_core::Bytes;
 
@@ -12,6 +13,12 @@ pub enum Command {
     /// `convert problem PROBLEM`: the problem with the files that it includes, in its canonical
     /// text.
     ConvertProblem,
+    /// `convert vernacular PROBLEM PROOF`: the proof, where it is accepted, in the canonical text of
+    /// version 1.
+    ConvertVernacular,
+    /// `convert version2 PROBLEM PROOF`: the proof, where it is accepted, in the canonical text of
+    /// version 2.
+    ConvertVersion2,
 }
 
 /// The command that the words after the program's name are, and `None` exactly where they are no
@@ -29,17 +36,37 @@ pub fn read_words(words: &[Bytes]) -> Option<Command>
                 None
             }
         }
+        [first, second, _, _] => {
+            if first.as_slice() == b"convert".as_slice() {
+                proof_conversion(second.as_slice())
+            } else {
+                None
+            }
+        }
         _ => None,
     }
 }
 
-/// The command that converts what the word names.
+/// The command that converts a problem, where the word names it.
 fn conversion(word: &[u8]) -> Option<Command>
     ensures { result ≡ (if bytes_eq word.now (codes "problem")
         then Some Command.ConvertProblem else None) }
 {
     if word == b"problem".as_slice() {
         Some(Command::ConvertProblem)
+    } else {
+        None
+    }
+}
+
+/// The command that converts a proof to the version that the word names.
+fn proof_conversion(word: &[u8]) -> Option<Command>
+    ensures { result ≡ conversion_of word.now }
+{
+    if word == b"vernacular".as_slice() {
+        Some(Command::ConvertVernacular)
+    } else if word == b"version2".as_slice() {
+        Some(Command::ConvertVersion2)
     } else {
         None
     }
@@ -63,6 +90,18 @@ pub(crate) fn convert_name(words: &[Bytes]) -> &[u8]
 {
     match words {
         [_, _, problem] => problem.as_slice(),
+        _ => unreachable!(),
+    }
+}
+
+/// The names of the problem's and the proof's file in the words of the proof's conversion.
+pub(crate) fn rewrite_names(words: &[Bytes]) -> (&[u8], &[u8])
+    requires { (edition : Edition) × (command_of words.now ≡ Some (rewriting edition)) }
+    ensures { (edition : Edition) → command_of words.now ≡ Some (rewriting edition)
+        → words.now ≡ rewrite_words edition result.0.now result.1.now }
+{
+    match words {
+        [_, _, problem, proof] => (problem.as_slice(), proof.as_slice()),
         _ => unreachable!(),
     }
 }

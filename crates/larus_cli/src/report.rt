@@ -28,7 +28,7 @@ pub enum Report {
     Accepted(u32),
     /// A step of the proof is refused.
     Refused(StepRefusal),
-    /// The canonical text of the problem.
+    /// The canonical text of the problem, or of a script that stands for the proof.
     Converted(Bytes),
     /// This file could not be fetched.
     FileFault(Bytes),

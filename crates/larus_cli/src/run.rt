@@ -5,9 +5,10 @@ ghost use Rattle.text_core.specs.Names.{Text};
 ghost use Rattle.io_core.specs.Causes.{Rose};
 ghost use Rattle.io_core.specs.Fetched.{Grows};
 ghost use Rattle.io_core.specs.Stream.{Puts, Breaks};
-ghost use Rattle.larus_cli.specs.Words.{command_of};
+ghost use Rattle.proof_text.specs.declared.part.Edition.{Edition};
+ghost use Rattle.larus_cli.specs.Words.{command_of, edition_word};
 ghost use Rattle.larus_cli.specs.Follows.{ProblemFollows};
-ghost use Rattle.larus_cli.specs.Printed.{ProblemPrinted};
+ghost use Rattle.larus_cli.specs.Printed.{ProblemPrinted, ProofPrinted};
 ghost use Rattle.larus_cli.specs.Outcome.{Outcome, sinks};
 
 use crate::command::read_words;
@@ -18,7 +19,12 @@ use logic_core::{Bytes, World};
 use std::alloc::Global;
 
 /// What the program prints where its words are no command.
-const USAGE: &[u8] = b"44 Usage\ncheck PROBLEM PROOF\nconvert problem PROBLEM\n";
+const USAGE: &[u8] = b"44 Usage
+check PROBLEM PROOF
+convert problem PROBLEM
+convert vernacular PROBLEM PROOF
+convert version2 PROBLEM PROOF
+";
 
 /// The status for want of memory.
 pub(crate) const OUT_OF_MEMORY: u8 = 71;
@@ -66,11 +72,12 @@ fn answer<F: Files, O: Sink, E: Sink>(
 }
 
 /// The program: it does what the words, those after the program's name, ask for, with these files
-/// and these two sinks, and answers the status with which it ends. 0: the proof is accepted, or the
-/// problem printed. 1: the proof is not accepted. 2: a file or a formula of the problem is refused.
-/// 3: the proof's file is refused. 64: the words are no command. 66: a file could not be fetched.
-/// 71: want of memory. 74: the sink of the answer failed. What is said of structures holds in each
-/// structure of every family `W`, which no code can look at.
+/// and these two sinks, and answers the status with which it ends. 0: the proof is accepted, and
+/// printed where that is asked for, or the problem is printed. 1: the proof is not accepted. 2: a
+/// file or a formula of the problem is refused. 3: the proof's file is refused. 64: the words are
+/// no command. 66: a file could not be fetched. 71: want of memory. 74: the sink of the answer
+/// failed. What is said of structures holds in each structure of every family `W`, which no code
+/// can look at.
 pub fn run<W: World, F: Files, O: Sink, E: Sink>(
     alloc: Global,
     words: &[Bytes],
@@ -89,6 +96,12 @@ pub fn run<W: World, F: Files, O: Sink, E: Sink>(
     ensures printed { (problem : Text)
         → words.now ≡ codes "convert" ∷ codes "problem" ∷ problem ∷ [] → result ≡ 0
         → ProblemPrinted (F.known files.old) problem (O.stream out.old) (O.stream out.new) }
+    // A converted proof: what is printed reads back as a script, of the version that is asked for,
+    // which is accepted as the same body as the proof that was read.
+    ensures rewritten { (edition : Edition) (problem proof : Text)
+        → words.now ≡ codes "convert" ∷ edition_word edition ∷ problem ∷ proof ∷ [] → result ≡ 0
+        → ProofPrinted edition (F.known files.old) problem proof
+        (O.stream out.old) (O.stream out.new) }
     ensures outcome { Outcome words.now (F.known files.old) (F.known files.new)
         (sinks (O.stream out.old) (E.stream errs.old))
         (sinks (O.stream out.new) (E.stream errs.new)) result }

@@ -10,6 +10,10 @@ const CHECK: &[&[u8]] = &[b"check", b"x.p", b"x.v"];
 
 const CONVERT: &[&[u8]] = &[b"convert", b"problem", b"x.p"];
 
+const VERNACULAR: &[&[u8]] = &[b"convert", b"vernacular", b"x.p", b"x.v"];
+
+const VERSION2: &[&[u8]] = &[b"convert", b"version2", b"x.p", b"x.v"];
+
 const PROBLEM: &[u8] = b"fof(a1,axiom,p(c)). fof(g,conjecture,p(c)).";
 
 const TWO_AXIOMS: &[u8] = b"fof(a1,axiom,p(c)). fof(a2,axiom,q(c)). fof(g,conjecture,q(c)).";
@@ -102,8 +106,44 @@ mp cong_identity [a,b,b] new [] gives a = b. as 1 [a]. case b != e. as 2 [e]. en
     ),
 ];
 
+const CANONICAL_GEOMETRY: &[u8] = b"vernacular 1.
+take [w0,w1].
+mp $or(=,2) [w0,w1] new [] gives w0 = w1 | w0 != w1.
+cs 1.
+case w0 = w1.
+  as 1 [w0].
+case w0 != w1.
+  mp segment [w0,w1,w0,w1] new [w2] gives bet(w0,w1,w2) & cong(w1,w2,w0,w1).
+  mp $or(=,2) [w1,w2] new [] gives w1 = w2 | w1 != w2.
+  cs 4.
+  case w1 = w2.
+    mp cong_pseudo [w1,w2] new [] gives cong(w1,w2,w2,w1).
+    mp cong_trans [w1,w2,w0,w1,w2,w1] new [] gives cong(w0,w1,w2,w1).
+    mp $sym [w1,w2] new [] gives w2 = w1.
+    mp $sub(cong,4,3) [w0,w1,w2,w1,w1] new [] gives cong(w0,w1,w1,w1).
+    mp cong_identity [w0,w1,w1] new [] gives w0 = w1.
+    as 1 [w0].
+  case w1 != w2.
+    as 2 [w2].
+  end.
+end.
+";
+
 const DISJUNCTION: &[u8] = b"fof(a1,axiom,p(c) | q(c)). fof(a2,axiom,! [X] : (p(X) => r(X))).
 fof(a3,axiom,! [X] : (q(X) => r(X))). fof(g,conjecture,r(c)).";
+
+const LISTED: &[u8] = b"vernacular 1.
+take [].
+mp a1 [] new [] gives p(c) | q(c).
+cs 1.
+case p(c).
+  mp a2 [c] new [] gives r(c).
+  as 1 [].
+case q(c).
+  mp a3 [c] new [] gives r(c).
+  as 1 [].
+end.
+";
 
 const NAMED_SHOWN: &[u8] = b"vernacular 2.
 take [].
@@ -242,6 +282,35 @@ const ANSWERS: &[(&[&[u8]], Entries, u8, &[u8])] = &[
         0,
         b"fof(v,axiom,q(c)).\nfof(g,conjecture,q(c)).\n",
     ),
+    // a proof is printed with printed names, behind its comments
+    (VERNACULAR, GEOMETRY, 0, CANONICAL_GEOMETRY),
+    // the first version as the second
+    (
+        VERSION2,
+        &[(b"x.p", DISJUNCTION), (b"x.v", LISTED)],
+        0,
+        NAMED_SHOWN,
+    ),
+    // and back, with lines and facts and without
+    (
+        VERNACULAR,
+        &[(b"x.p", DISJUNCTION), (b"x.v", NAMED_SHOWN)],
+        0,
+        LISTED,
+    ),
+    (
+        VERNACULAR,
+        &[(b"x.p", DISJUNCTION), (b"x.v", NAMED)],
+        0,
+        LISTED,
+    ),
+    // a proof that is refused is not printed
+    (
+        VERSION2,
+        &[(b"x.p", DISJUNCTION), (b"x.v", OTHER_NAME)],
+        1,
+        b"refused 3 mp 48 VariableUnknown 1\n",
+    ),
 ];
 
 // Files of a problem that either command refuses, with the status and what is put to the errors.
@@ -275,8 +344,8 @@ X26,X27,X28,X29,X30,X31,X32,X33,X34,X35,X36,X37,X38,
 X39,X40,X41,X42,X43,X44,X45,X46,X47,X48,X49,X50,X51,
 X52,X53,X54,X55,X56,X57,X58,X59,X60,X61,X62,X63,X64] : p).";
 
-// Files of a problem and a proof that are refused in a check, with the status and what is put to
-// the errors.
+// Files of a problem and a proof that each command with a proof refuses, with the status and what
+// is put to the errors.
 const REFUSED_CHECKS: &[(Entries, u8, &[u8])] = &[
     // formulas are looked at before the proof is fetched
     (
@@ -523,7 +592,8 @@ fn assert_refused(
 fn a_refusal_goes_to_the_errors(rt: HostRuntime) -> Result<(), Fail> {
     assert_refused(&rt, rt.alloc(), CHECK, REFUSED_PROBLEMS)?;
     assert_refused(&rt, rt.alloc(), CONVERT, REFUSED_PROBLEMS)?;
-    assert_refused(&rt, rt.alloc(), CHECK, REFUSED_CHECKS)
+    assert_refused(&rt, rt.alloc(), CHECK, REFUSED_CHECKS)?;
+    assert_refused(&rt, rt.alloc(), VERNACULAR, REFUSED_CHECKS)
 }
 
 #[test]
@@ -572,7 +642,12 @@ fn other_words_get_the_usage_text(rt: HostRuntime) -> Result<(), Fail> {
         (
             64,
             b"",
-            b"44 Usage\ncheck PROBLEM PROOF\nconvert problem PROBLEM\n",
+            b"44 Usage
+check PROBLEM PROOF
+convert problem PROBLEM
+convert vernacular PROBLEM PROOF
+convert version2 PROBLEM PROOF
+",
         ),
     )
 }
@@ -588,10 +663,13 @@ fn a_failing_usage_text_gives_74(rt: HostRuntime) -> Result<(), Fail> {
 
 #[test]
 fn words_and_texts(rt: HostRuntime) -> Result<(), Fail> {
-    let rows: [(&[&[u8]], Option<Command>); 3] = [
+    let rows: [(&[&[u8]], Option<Command>); 6] = [
         (CHECK, Some(Command::Check)),
         (CONVERT, Some(Command::ConvertProblem)),
-        (&[b"convert", b"x.p"], None),
+        (VERNACULAR, Some(Command::ConvertVernacular)),
+        (VERSION2, Some(Command::ConvertVersion2)),
+        (&[b"convert", b"vernacular", b"x.p"], None),
+        (&[b"convert", b"problem", b"x.p", b"x.v"], None),
     ];
     for (texts, command) in rows {
         assert_eq!(rt;

@@ -1,5 +1,5 @@
 use Rattle.logic_core.specs.Truth.{structure}
-use Rattle.larus_cli.proofs.Outcomes.{follows_of, printed_of, no_command}
+use Rattle.larus_cli.proofs.Outcomes.{follows_of, printed_of, rewritten_of, no_command}
 use Rattle.larus_cli.proofs.run.run.Goals as goal
 
 pub returns-clause-sound : goal.returns-clause-sound
@@ -9,6 +9,9 @@ returns-clause-sound g c k problem proof are done =
 
 pub returns-clause-printed : goal.returns-clause-printed
 returns-clause-printed g c problem are done = printed_of c.answer.ensures.outcome problem are done
+
+pub returns-clause-rewritten : goal.returns-clause-rewritten
+returns-clause-rewritten g c edition problem proof are done = rewritten_of c.answer.ensures.outcome edition problem proof are done
 
 pub returns-clause-no_command : goal.returns-clause-no_command
 returns-clause-no_command g c = no_command c.answer.ensures.outcome

@@ -1,5 +1,5 @@
 use Rattle.larus_cli.proofs.Saying.{problem_fault, problem_told}
-use Rattle.larus_cli.proofs.decide.read_problem.Goals as goal
+use Rattle.larus_cli.proofs.reading.read_problem.Goals as goal
 
 pub returns-in-FileFault-clause-halts : goal.returns-in-FileFault-clause-halts
 returns-in-FileFault-clause-halts g c words names =

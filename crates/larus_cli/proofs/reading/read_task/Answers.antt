@@ -1,6 +1,6 @@
 use Rattle.std.proofs.Common.{◌≡◌, Some, Err, rules}
 use Rattle.larus_cli.proofs.Saying.{formula_told}
-use Rattle.larus_cli.proofs.decide.read_task.Goals as goal
+use Rattle.larus_cli.proofs.reading.read_task.Goals as goal
 
 pub returns-in_err-problem-clause-halts : goal.returns-in_err-problem-clause-halts
 returns-in_err-problem-clause-halts g c words second names =

@@ -3,7 +3,7 @@ use Rattle.larus_cli.specs.declared.report.ProofWhy.TheVariants.{Script}
 use Rattle.larus_cli.specs.declared.report.Report.TheVariants.{ProofFile}
 use Rattle.larus_cli.specs.Reports.{IsAnswer}
 use Rattle.larus_cli.proofs.Saying.{proof_told}
-use Rattle.larus_cli.proofs.decide.read_proof.Goals as goal
+use Rattle.larus_cli.proofs.reading.read_proof.Goals as goal
 
 pub returns-in_ok-report-in_default-clause-halts : goal.returns-in_ok-report-in_default-clause-halts
 returns-in_ok-report-in_default-clause-halts c words files later problem task names reads =

@@ -7,7 +7,7 @@ use Rattle.larus_cli.specs.Texts.{fault_text}
 use Rattle.larus_cli.specs.Answers.{Answer}
 use Rattle.larus_cli.specs.Reports.{IsAnswer}
 use Rattle.larus_cli.proofs.Saying.{second_fault, second_too_long}
-use Rattle.larus_cli.proofs.decide.read_second.Goals as goal
+use Rattle.larus_cli.proofs.reading.read_second.Goals as goal
 
 pub returns-in_ok-file-in-Err-Failed-clause-halts : goal.returns-in_ok-file-in-Err-Failed-clause-halts
 returns-in_ok-file-in-Err-Failed-clause-halts g c words before problem task grows names reads =
