@@ -1,10 +1,10 @@
 #!/bin/sh
-# Tells how long `check` takes on large problems and proofs, beside `wc` on the same files: chains of 2,000, 10,000 and 50,000
-# steps, beside Metamath too where its program is installed; as many steps as a proof may have, which all cite the last of as many
-# axioms of one name as a problem may have; 200 splits around one another, with steps in each branch; and a million facts, then
-# 60,000 steps behind them. Each time is that of one run, the best of three rounds. The cost of a step is told without the time
-# that the smallest proof takes, and in the last line without that of the million facts. That each proof is accepted is looked at;
-# no time is asserted.
+# Tells what `check` takes on large problems and proofs, beside `wc` on the same files: chains of up to 50,000 steps, beside
+# Metamath too where its program is installed; as many steps as a proof may have, which all cite the last of as many axioms of one
+# name as a problem may have; 200 splits around one another, with steps in each branch; and a million facts, then 60,000 steps
+# behind them. Times are those of a processor, the best of three runs, and of 20 where a run is short. Instructions are counted
+# where valgrind is installed. What each step costs is told without what the chain of one step takes, and in the last line without
+# the million facts. That each proof is accepted is looked at; no time is asserted.
 # Build the program first: `./hogbygone` does it. PROGRAM=PATH takes another one.
 export LC_ALL=C
 here=$(cd "$(dirname "$0")" && pwd)
@@ -13,52 +13,51 @@ folder=$(mktemp -d) || exit 1
 trap 'rm -rf "$folder"' EXIT
 cd "$folder" || exit 1
 
-# Nanoseconds of one run of some words, out of TURNS in a row, the best of three rounds. What it prints is in the file `out`.
-took() {
-    turns=$1 best=
-    shift
-    for round in 1 2 3; do
-        left=$turns start=$(date +%s%N)
-        while [ "$left" -gt 0 ]; do
-            "$@" >out || return 1
-            left=$((left - 1))
-        done
-        time=$((($(date +%s%N) - start) / turns))
-        [ -n "$best" ] && [ "$best" -le "$time" ] || best=$time
-    done
-    echo "$best"
+# The instructions of a command, or 0.
+instructions() {
+    command -v valgrind >/dev/null || { echo 0; return; }
+    valgrind --tool=cachegrind --cache-sim=no --cachegrind-out-file=/dev/null "$@" 2>&1 >/dev/null |
+        awk '/I +refs:/ { gsub(",", "", $NF); print $NF }'
 }
 
-# Checks a proof, TURNS times in a row, and looks at its size: check PROBLEM PROOF SIZE TURNS. The time is left in `check`.
+# The nanoseconds, bytes and instructions of a command that is run so often: took RUNS COMMAND.. What it prints is in `out`.
+took() {
+    "$here/took" "$@" || return
+    shift
+    instructions "$@"
+}
+
+# Checks a proof so often, and looks at its size: check PROBLEM PROOF SIZE RUNS. What it took is left in `check`.
 check() {
     check=$(took "$4" "$program" check "$1" "$2") && [ "$(cat out)" = "accepted $3" ] && return
     echo "check $1 $2: $(cat out)" >&2
     exit 1
 }
 
-# Tells what checking a proof of this size took, beside wc, and what each of its steps costs, or each of other PARTS: tell PROBLEM
-# PROOF SIZE TURNS TITLE [PARTS PART].
-tell() {
-    check "$1.p" "$2.v" "$3" "$4"
-    count=$(took 10 wc "$1.p" "$2.v") || exit 1
-    awk -v name="$5:" -v check="$check" -v count="$count" -v less="$less" -v parts="${6:-$3}" -v part="${7:-step}" 'BEGIN {
-        printf "%-33s %8.4f s, %6.1f times as long as wc, ", name, check / 1e9, check / count
-        printf "%.2f us a %s\n", (check - less) / parts / 1e3, part
+# A line of the table: what was run, what that took, what wc took, what is left out, and the number of steps.
+row() {
+    echo $2 $3 $4 "$5" | awk -v name="$1" '{
+        each = $3 ? sprintf("%.0f", ($3 - $9) / $10) : "-"
+        printf "%-34s %9.4f %8.1f %9.2f %13s %6.0f\n", name, $1 / 1e9, $1 / $4, ($1 - $7) / $10 / 1e3, each, $2 / 1e6
     }'
 }
 
-# Tells the same of Metamath and the chain: tell_metamath SIZE TURNS.
+# The line of a proof of this size: tell PROBLEM PROOF SIZE RUNS NAME [PARTS].
+tell() {
+    check "$1.p" "$2.v" "$3" "$4"
+    count=$(took 20 wc "$1.p" "$2.v") || exit 1
+    row "$5" "$check" "$count" "$less" "${6:-$3}"
+}
+
+# The line of Metamath and the chain: tell_metamath SIZE RUNS.
 tell_metamath() {
     if ! command -v metamath >/dev/null; then
-        echo "  metamath is not installed, so nothing stands beside this chain"
+        echo "  metamath is not installed"
         return
     fi
-    time=$(took "$2" metamath 'read chain.mm' 'verify proof *' exit) || exit 1
+    other=$(took "$2" metamath 'read chain.mm' 'verify proof *' exit) || exit 1
     grep -q '^All proofs in the database were verified' out || exit 1
-    awk -v time="$time" -v check="$check" -v steps="$1" 'BEGIN {
-        printf "%-33s %8.4f s, %6.1f times as long as check, ", "  metamath on the same chain:", time / 1e9, time / check
-        printf "%.2f us a step\n", time / steps / 1e3
-    }'
+    row "  metamath on the same chain" "$other" "$count" "$less_other" "$1"
 }
 
 # 65,535 axioms of one name, and as many steps that cite the last one.
@@ -124,17 +123,17 @@ write_wide() {
     echo "as 1 [w1]." >>wide.v
 }
 
-cp "$here/../examples/one_axiom.p" "$here/../examples/one_axiom.v" . || exit 1
-check one_axiom.p one_axiom.v 2 20
-less=$check
-awk -v time="$check" 'BEGIN { printf "%-33s %8.4f s\n", "the smallest proof:", time / 1e9 }'
-for steps in 2000 10000 50000; do
+echo "                                     seconds times wc   us each  instructions     MB"
+less="0 0 0" less_other="0 0 0"
+for steps in 1 2000 10000 50000; do
     "$here/chain" "$steps" . || exit 1
-    tell chain chain $((steps + 2)) $((100000 / steps)) "chain of $steps steps"
-    tell_metamath $((steps + 2)) $((100000 / steps))
+    runs=$((steps < 50000 ? 20 : 3))
+    tell chain chain $((steps + 2)) "$runs" "chain of $steps"
+    tell_metamath $((steps + 2)) "$runs"
+    [ "$steps" -gt 1 ] || less=$check less_other=$other
 done
-write_cited && tell cited cited 65536 1 "65,535 steps cite the last axiom"
-write_nested && tell nested nested 64402 1 "200 splits around one another"
-write_wide && tell wide wide 1001 1 "1,024,000 facts in 1,000 steps" 1024000 fact
+write_cited && tell cited cited 65536 3 "65535 steps citing the last form"
+write_nested && tell nested nested 64402 3 "64000 steps in 200 splits"
+write_wide && tell wide wide 1001 3 "1024000 facts in 1000 steps" 1024000
 less=$check
-tell wide further 61001 1 "60,000 steps more behind them" 60000
+tell wide further 61001 3 "60000 steps more behind them" 60000
