@@ -9,6 +9,7 @@ use Rattle.text_core.proofs.Laws.{value_same}
 use Rattle.logic_core.specs.declared.problem.Fof.{Fof}
 use Rattle.vernacular_tree.specs.declared.tree.Body.{Body}
 use Rattle.vernacular_tree.specs.Sizes.{size}
+use Rattle.vernacular_tree.specs.Barren.{IsLeast}
 use Rattle.io_core.specs.Held.{Held}
 use Rattle.io_core.specs.Known.{Known}
 use Rattle.io_core.specs.Fetched.{IsLong}
@@ -35,28 +36,52 @@ use Rattle.proof_checker.specs.Faults.{IsFault}
 use Rattle.proof_checker.proofs.Laws.{accepted_one, fault_one, accepted_none}
 use Rattle.larus_cli.specs.declared.command.Command.{Command}
 use Rattle.larus_cli.specs.declared.command.Command.TheVariants.{ConvertVernacular, ConvertVersion2}
-use Rattle.larus_cli.specs.Words.{command_of, rewrite_words, names_in, NamesBoth}
-use Rattle.larus_cli.specs.Texts.{accepted_text, usage_text, too_long_text, flat_text, formula_text, script_text, step_text}
+use Rattle.larus_cli.specs.declared.command.TheConstants.{MOST_STEPS}
+use Rattle.larus_cli.specs.Words.{Aim, to_print, to_prove, to_judge, command_of, prove_words, rewrite_words, names_in, names_of, NamesTask, NamesBoth}
+use Rattle.larus_cli.specs.Texts.{accepted_text, usage_text, too_long_text, flat_text, formula_text, script_text, step_text, none_text}
 use Rattle.larus_cli.specs.Read.{ReadsTask, ReadsBytes, ReadsScript}
-use Rattle.larus_cli.specs.Done.{Done, accepted, converted, rewritten}
-use Rattle.larus_cli.specs.Answers.{Answer, done, step_refused, problem_refused, formula_refused, too_long, proof_refused, usage, fault}
-use Rattle.larus_cli.specs.Outcome.{Sinks, PutsTo, Outcome, answered, broken, out_of_memory, IsSettled, EndAlike}
-use Rattle.larus_cli.proofs.Saying.{names_check, names_rewrite}
+use Rattle.larus_cli.specs.Smallest.{IsSmallest, HasNoProof}
+use Rattle.larus_cli.specs.Done.{Done, accepted, proved, converted, rewritten}
+use Rattle.larus_cli.specs.Answers.{Answer, done, step_refused, none_up_to, problem_refused, formula_refused, too_long, proof_refused, usage, fault}
+use Rattle.larus_cli.specs.Outcome.{Sinks, PutsTo, Outcome, answered, broken, out_of_memory, IsSettled, Alike, one_text, two_smallest, EndAlike}
+use Rattle.larus_cli.proofs.Saying.{names_check, names_prove, names_rewrite}
 use Rattle.larus_cli.proofs.Outcomes.{names_some}
 
--- where an answer goes, its text, and its status
+-- what is said: one text, or that of some smallest proof of a task
+data Said : Type 0 where
+  exactly : Text → Said
+  some_smallest : CitedTask → Said
+
+-- the text is what is said
+abbrev Means : List Text → Said → Text → Type 0
+Means words (exactly said) text = text ≡ said
+Means words (some_smallest task) text = (problem : Text) × (most : ℕ) × (body : Body) × (words ≡ prove_words problem most) ×
+    IsSmallest task body × (text ≡ written_text (script_of First task body))
+
+-- texts that are what is said are alike
+alike_of : (words : List Text) (said : Said) (text another : Text) → Means words said text → Means words said another → Alike words text another
+alike_of words (exactly said) text another e f = subst (Alike words text) (e ∙ sym f) (one_text text)
+alike_of words (some_smallest task) text another (problem, most, body, are, least, e) (_, _, other, _, also, f) =
+    subst (λ t. Alike words t another) (sym e) (subst (Alike words (written_text (script_of First task body))) (sym f)
+    (two_smallest problem most task body other are least also))
+
+-- where an answer goes, what is said, and its status
 record End : Type 0 where
   output : Bool
-  text : Text
+  said : Said
   status : ℕ
 
 -- an end on the output
 abbrev on_output : Text → ℕ → End
-on_output text status = record { output = true; text = text; status = status }
+on_output text status = record { output = true; said = exactly text; status = status }
 
 -- an end on the errors
 abbrev on_errors : Text → ℕ → End
-on_errors text status = record { output = false; text = text; status = status }
+on_errors text status = record { output = false; said = exactly text; status = status }
+
+-- the end where a proof is found
+abbrev found_end : CitedTask → End
+found_end task = record { output = true; said = some_smallest task; status = 0 }
 
 -- what is said of an accepted proof, by the command
 abbrev Tells : Type 0
@@ -116,60 +141,77 @@ module _ (tell : Tells) (held : Held) where
   one_by_second name task a b once (inr (bytes, get, within, e)) (inr (others, also, within', f)) =
       one_by_bytes tell name task bytes a b once e (subst (OnBytes tell name task b) (value_same (sym also ∙ get)) f)
 
+  -- by the search for a proof within a bound
+  abbrev OnSearch : ℕ → End → CitedTask → Type 0
+  OnSearch most end task = ((body : Body) × IsSmallest task body × (size body ≤ most) × (end ≡ found_end task)) ⊎
+      (HasNoProof task most × (end ≡ on_output (none_text most) 1))
+
+  -- two ends by the search are one
+  one_by_search : (most : ℕ) (task : CitedTask) (a b : End) → OnSearch most a task → OnSearch most b task → a ≡ b
+  one_by_search most task a b (inl (body, is, few, e)) (inl (other, also, small, f)) = e ∙ sym f
+  one_by_search most task a b (inl (body, is, few, e)) (inr (none, f)) = absurd (none body is.proves few)
+  one_by_search most task a b (inr (none, e)) (inl (body, is, few, f)) = absurd (none body is.proves few)
+  one_by_search most task a b (inr (none, e)) (inr (also, f)) = e ∙ sym f
+
   -- by the task of the problem
-  abbrev OnTask : Text → List Fof → End → Type 0
-  OnTask name flat end = ((refusal : TaskRefusal) × IsTaskFault flat refusal × (end ≡ on_errors (formula_text refusal) 2)) ⊎
-      ((task : CitedTask) × IsTaskOf flat task × OnSecond name end task)
+  abbrev OnTask : (CitedTask → Type 0) → End → List Fof → Type 0
+  OnTask P end flat = ((refusal : TaskRefusal) × IsTaskFault flat refusal × (end ≡ on_errors (formula_text refusal) 2)) ⊎
+      ((task : CitedTask) × IsTaskOf flat task × P task)
 
   -- two ends by the task of the problem are one
-  one_by_task : (name : Text) (flat : List Fof) (a b : End) → OnTask name flat a → OnTask name flat b → a ≡ b
-  one_by_task name flat a b (inl (refusal, is, e)) (inl (other, also, f)) =
+  one_by_task : (P Q : CitedTask → Type 0) (flat : List Fof) (a b : End) → ((task : CitedTask) → AreCitedOnce task → P task → Q task → a ≡ b) →
+      OnTask P a flat → OnTask Q b flat → a ≡ b
+  one_by_task P Q flat a b one (inl (refusal, is, e)) (inl (other, also, f)) =
       e ∙ ap (λ r. on_errors (formula_text r) 2) (one_task_refusal flat refusal other is also) ∙ sym f
-  one_by_task name flat a b (inl (refusal, is, e)) (inr (task, has, f)) = absurd (task_not_refused flat task refusal has is)
-  one_by_task name flat a b (inr (task, has, e)) (inl (refusal, is, f)) = absurd (task_not_refused flat task refusal has is)
-  one_by_task name flat a b (inr (task, has, e)) (inr (other, also, f)) =
-      one_by_second name task a b (cited_once flat task has) e (subst (OnSecond name b) (one_task flat other task also has) f)
+  one_by_task P Q flat a b one (inl (refusal, is, e)) (inr (task, has, f)) = absurd (task_not_refused flat task refusal has is)
+  one_by_task P Q flat a b one (inr (task, has, e)) (inl (refusal, is, f)) = absurd (task_not_refused flat task refusal has is)
+  one_by_task P Q flat a b one (inr (task, has, e)) (inr (other, also, f)) =
+      one task (cited_once flat task has) e (subst Q (one_task flat other task also has) f)
 
-  -- by the formulas of the problem; a command with a second file wants their task
-  abbrev OnFormulas : Option Text → End → List Fof → Type 0
-  OnFormulas None end flat = end ≡ on_output (problem_text flat) 0
-  OnFormulas (Some name) end flat = OnTask name flat end
+  -- by the formulas of the problem, and what is asked of it
+  abbrev OnFormulas : Aim → End → List Fof → Type 0
+  OnFormulas to_print end flat = end ≡ on_output (problem_text flat) 0
+  OnFormulas (to_prove most) end flat = OnTask (OnSearch most end) end flat
+  OnFormulas (to_judge name) end flat = OnTask (OnSecond name end) end flat
 
   -- two ends by the formulas of the problem are one
-  one_by_formulas : (second : Option Text) (flat : List Fof) (a b : End) → OnFormulas second a flat → OnFormulas second b flat → a ≡ b
-  one_by_formulas None flat a b e f = e ∙ sym f
-  one_by_formulas (Some name) flat a b e f = one_by_task name flat a b e f
+  one_by_formulas : (aim : Aim) (flat : List Fof) (a b : End) → OnFormulas aim a flat → OnFormulas aim b flat → a ≡ b
+  one_by_formulas to_print flat a b e f = e ∙ sym f
+  one_by_formulas (to_prove most) flat a b e f =
+      one_by_task (OnSearch most a) (OnSearch most b) flat a b (λ task once. one_by_search most task a b) e f
+  one_by_formulas (to_judge name) flat a b e f =
+      one_by_task (OnSecond name a) (OnSecond name b) flat a b (λ task once. one_by_second name task a b once) e f
 
   -- by the files of the problem
-  abbrev OnProblem : End → Text → Option Text → Type 0
-  OnProblem end problem second =
+  abbrev OnProblem : End → Text → Aim → Type 0
+  OnProblem end problem aim =
       ((file : Text) × (why : FlatWhy) × IsFlatRefused held problem file why × (end ≡ on_errors (file ++ flat_text why) 2)) ⊎
-      ((flat : List Fof) × IsFlat held problem flat × OnFormulas second end flat)
+      ((flat : List Fof) × IsFlat held problem flat × OnFormulas aim end flat)
 
   -- two ends by the files of the problem are one
-  one_by_problem : (problem : Text) (second : Option Text) (a b : End) → OnProblem a problem second → OnProblem b problem second → a ≡ b
-  one_by_problem problem second a b (inl (file, why, is, e)) (inl (other, reason, also, f)) =
+  one_by_problem : (problem : Text) (aim : Aim) (a b : End) → OnProblem a problem aim → OnProblem b problem aim → a ≡ b
+  one_by_problem problem aim a b (inl (file, why, is, e)) (inl (other, reason, also, f)) =
       let same = one_refusal held problem file other why reason is also in
       e ∙ (λ i. on_errors (same.0 i ++ flat_text (same.1 i)) 2) ∙ sym f
-  one_by_problem problem second a b (inl (file, why, is, e)) (inr (flat, also, f)) = absurd (never_both held problem flat file why also is)
-  one_by_problem problem second a b (inr (flat, also, e)) (inl (file, why, is, f)) = absurd (never_both held problem flat file why also is)
-  one_by_problem problem second a b (inr (flat, is, e)) (inr (other, also, f)) =
-      one_by_formulas second flat a b e (subst (OnFormulas second b) (one_list held problem flat other is also) f)
+  one_by_problem problem aim a b (inl (file, why, is, e)) (inr (flat, also, f)) = absurd (never_both held problem flat file why also is)
+  one_by_problem problem aim a b (inr (flat, also, e)) (inl (file, why, is, f)) = absurd (never_both held problem flat file why also is)
+  one_by_problem problem aim a b (inr (flat, is, e)) (inr (other, also, f)) =
+      one_by_formulas aim flat a b e (subst (OnFormulas aim b) (one_list held problem flat other is also) f)
 
 module _ (held : Held) where
   -- by the words
   abbrev OnWords : List Text → End → Type 0
   OnWords words end = ((command_of words ≡ None) × (end ≡ on_errors usage_text 64)) ⊎
-      ((problem : Text) × (second : Option Text) × (names_in (command_of words) words ≡ Some (problem, second)) × OnProblem (told_by (command_of words)) held end problem second)
+      ((problem : Text) × (aim : Aim) × (names_in (command_of words) words ≡ Some (problem, aim)) × OnProblem (told_by (command_of words)) held end problem aim)
 
   -- two ends by the words are one
   one_by_words : (words : List Text) (a b : End) → OnWords words a → OnWords words b → a ≡ b
   one_by_words words a b (inl (none, e)) (inl (also, f)) = e ∙ sym f
-  one_by_words words a b (inl (none, e)) (inr (problem, second, names, f)) = absurd (names_some words _ names none)
-  one_by_words words a b (inr (problem, second, names, e)) (inl (none, f)) = absurd (names_some words _ names none)
-  one_by_words words a b (inr (problem, second, names, e)) (inr (other, another, also, f)) =
+  one_by_words words a b (inl (none, e)) (inr (problem, aim, names, f)) = absurd (names_some words _ names none)
+  one_by_words words a b (inr (problem, aim, names, e)) (inl (none, f)) = absurd (names_some words _ names none)
+  one_by_words words a b (inr (problem, aim, names, e)) (inr (other, another, also, f)) =
       let same = value_same (sym also ∙ names) in
-      one_by_problem (told_by (command_of words)) held problem second a b e (subst (λ (n : Text × Option Text). OnProblem (told_by (command_of words)) held b n.0 n.1) same f)
+      one_by_problem (told_by (command_of words)) held problem aim a b e (subst (λ (n : Text × Aim). OnProblem (told_by (command_of words)) held b n.0 n.1) same f)
 
   module _ (words : List Text) (files later : Known) (told : files.held ≡ Some held) where
     abbrev tell : Tells
@@ -183,7 +225,7 @@ module _ (held : Held) where
     by_task : (problem name : Text) (task : CitedTask) (end : End) → NamesBoth words problem name →
         ReadsTask files problem task → OnSecond tell held name end task → OnWords words end
     by_task problem name task end names read is =
-        inr (problem, Some name, names, inr (read.formulas, here (λ h. IsFlat h problem read.formulas) read.reads, inr (task, read.has, is)))
+        inr (problem, to_judge name, names, inr (read.formulas, here (λ h. IsFlat h problem read.formulas) read.reads, inr (task, read.has, is)))
 
     -- an end by the bytes of that file
     by_bytes : (problem name bytes : Text) (task : CitedTask) (end : End) → NamesBoth words problem name →
@@ -203,48 +245,107 @@ module _ (held : Held) where
     told_rewriting First problem proof task body are = ap (λ ws. told_by (command_of ws) task body) (sym are)
     told_rewriting Second problem proof task body are = ap (λ ws. told_by (command_of ws) task body) (sym are)
 
+    -- an end on the output or the errors that says what the text is
+    abbrev Ends : Bool → Text → ℕ → Type 0
+    Ends output text status = (said : Said) × OnWords words (record { output = output; said = said; status = status }) × Means words said text
+
+    -- a formula is refused, by what is asked of the problem's task
+    by_fault : (aim : Aim) (end : End) (formulas : List Fof) (refusal : TaskRefusal) → aim ≢ to_print → IsTaskFault formulas refusal →
+        end ≡ on_errors (formula_text refusal) 2 → OnFormulas tell held aim end formulas
+    by_fault to_print end formulas refusal some is e = absurd (some refl)
+    by_fault (to_prove most) end formulas refusal some is e = inl (refusal, is, e)
+    by_fault (to_judge name) end formulas refusal some is e = inl (refusal, is, e)
+
+    -- an end by the search in the task of the problem
+    by_search : (problem : Text) (most : ℕ) (task : CitedTask) (end : End) → words ≡ prove_words problem most → most ≤ MOST_STEPS →
+        ReadsTask files problem task → OnSearch tell held most end task → OnWords words end
+    by_search problem most task end are few read is =
+        inr (
+          problem,
+          to_prove most,
+          names_prove words problem most few are,
+          inr (read.formulas, here (λ h. IsFlat h problem read.formulas) read.reads, inr (task, read.has, is)),
+        )
+
     -- what is done is an end by the words, on the output with status 0
-    by_done : (text : Text) → Done words files text → OnWords words (on_output text 0)
-    by_done _ (accepted problem proof task script body are read) =
-        by_script problem proof task script _ (names_check words problem proof are) read.reads
-        (inl (body, read.accepted, ap (λ ws. on_output (told_by (command_of ws) task body) 0) (sym are)))
+    by_done : (text : Text) → Done words files text → Ends true text 0
+    by_done _ (accepted problem proof task script body are read) = (
+      exactly (accepted_text (size body)),
+      by_script problem proof task script _ (names_check words problem proof are) read.reads
+          (inl (body, read.accepted, ap (λ ws. on_output (told_by (command_of ws) task body) 0) (sym are))),
+      refl,
+    )
+    by_done _ (proved problem text most task body are few read least within is back) = (
+      some_smallest task,
+      by_search problem most task _ are few read (inl (body, least, within, refl)),
+      (problem, most, body, are, least, is),
+    )
     by_done _ (converted problem text formulas are reads is back) =
-        let names = subst (λ ws. names_in (command_of ws) ws ≡ Some (problem, None)) (sym are) refl in
-        inr (problem, None, names, inr (formulas, here (λ h. IsFlat h problem formulas) reads, ap (λ t. on_output t 0) is))
-    by_done _ (rewritten edition problem proof text task script body are read is back) =
-        by_script problem proof task script _ (names_rewrite edition words problem proof are) read.reads
-        (inl (body, read.accepted, ap (λ t. on_output t 0) (is ∙ told_rewriting edition problem proof task body are)))
+        let names = subst (λ ws. names_in (command_of ws) ws ≡ Some (problem, to_print)) (sym are) refl in
+        (exactly text, inr (problem, to_print, names, inr (formulas, here (λ h. IsFlat h problem formulas) reads, ap (λ t. on_output t 0) is)), refl)
+    by_done _ (rewritten edition problem proof text task script body are read is back) = (
+      exactly text,
+      by_script problem proof task script _ (names_rewrite edition words problem proof are) read.reads
+          (inl (body, read.accepted, ap (λ t. on_output t 0) (is ∙ told_rewriting edition problem proof task body are))),
+      refl,
+    )
 
     -- an answer is an end by the words, unless a fetch failed
-    by_row : {output : Bool} {text : Text} {status : ℕ} → Answer words files later output text status → status ≢ 66 →
-        OnWords words (record { output = output; text = text; status = status })
+    by_row : {output : Bool} {text : Text} {status : ℕ} → Answer words files later output text status → status ≢ 66 → Ends output text status
     by_row (done text row) some = by_done text row
-    by_row (step_refused problem second task script refusal names reads is) some = by_script problem second task script _ names reads (inr (refusal, is, refl))
-    by_row (problem_refused problem file why names is inner) some =
-        inr (problem, names.0, names.1, inl (file, why, here (λ h. IsFlatRefused h problem file why) is, refl))
-    by_row (formula_refused problem second formulas refusal names reads is) some =
-        inr (problem, Some second, names, inr (formulas, here (λ h. IsFlat h problem formulas) reads, inl (refusal, is, refl)))
-    by_row (too_long problem second task names read long) some =
-        by_task problem second task _ names read (inl (here (λ h. IsLong h second MOST_FILE_BYTES) long, refl))
-    by_row (proof_refused problem second task bytes refusal names read is) some =
-        by_bytes problem second bytes task _ names read (inl (refusal, is, refl))
-    by_row (usage none) some = inl (none, refl)
+    by_row (step_refused problem second task script refusal names reads is) some =
+        (exactly (step_text refusal), by_script problem second task script _ names reads (inr (refusal, is, refl)), refl)
+    by_row (none_up_to problem most task are few read is) some =
+        (exactly (none_text most), by_search problem most task _ are few read (inr (is, refl)), refl)
+    by_row (problem_refused problem file why names is inner) some = (
+      exactly (file ++ flat_text why),
+      inr (problem, names.0, names.1, inl (file, why, here (λ h. IsFlatRefused h problem file why) is, refl)),
+      refl,
+    )
+    by_row (formula_refused problem formulas refusal names reads is) some = (
+      exactly (formula_text refusal),
+      inr (
+        problem,
+        names.0,
+        names.1,
+        inr (
+          formulas,
+          here (λ h. IsFlat h problem formulas) reads,
+          by_fault names.0 _ formulas refusal names.2 is refl,
+        ),
+      ),
+      refl,
+    )
+    by_row (too_long problem second task names read long) some = (
+      exactly (second ++ too_long_text),
+      by_task problem second task _ names read (inl (here (λ h. IsLong h second MOST_FILE_BYTES) long, refl)),
+      refl,
+    )
+    by_row (proof_refused problem second task bytes refusal names read is) some = (
+      exactly (second ++ script_text refusal),
+      by_bytes problem second bytes task _ names read (inl (refusal, is, refl)),
+      refl,
+    )
+    by_row (usage none) some = (exactly usage_text, inl (none, refl), refl)
     by_row (fault file asked fails) some = absurd (some refl)
 
 -- two outcomes of the same words, over files that hold the same
 pub one_outcome : (words : List Text) (held : Held) (files later other last : Known) (old new before after : Sinks) (status end : ℕ) →
     files.held ≡ Some held → other.held ≡ Some held → Outcome words files later old new status → Outcome words other last before after end →
-    IsSettled status → IsSettled end → EndAlike old new before after status end
+    IsSettled status → IsSettled end → EndAlike words old new before after status end
 one_outcome words held files later other last old new before after _ _ told also (answered output text status row put)
     (answered output' text' end row' put') settled settled' =
-    let same = one_by_words held words _ _ (by_row held words files later told row settled.fetched)
-    (by_row held words other last also row' settled'.fetched) in
+    let a = by_row held words files later told row settled.fetched in
+    let b = by_row held words other last also row' settled'.fetched in
+    let one = one_by_words held words _ _ a.1 b.1 in
     record {
       output = output;
       text = text;
+      another = text';
       first = put;
-      second = subst (λ (e : End). PutsTo e.output before after e.text) (sym same) put';
-      same = ap (λ (e : End). e.status) same;
+      second = subst (λ (e : End). PutsTo e.output before after text') (sym one) put';
+      alike = alike_of words a.0 text text' a.2 (subst (λ (e : End). Means words e.said text') (sym one) b.2);
+      same = ap (λ (e : End). e.status) one;
     }
 one_outcome words held files later other last old new before after _ _ told also (broken output text status row breaks) second settled settled' =
     absurd (settled.put refl)

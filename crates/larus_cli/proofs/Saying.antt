@@ -1,6 +1,7 @@
 -- What is said where a command ends early is a row of the table of answers.
 use Rattle.std.specs.Prelude.{◌≢◌, IfSome}
-use Rattle.std.proofs.Common.{◌≡◌, inl, inr, ◌⊎◌, ◌++◌, false, List, Option, Some, None, ap, sym, subst, refl, arith}
+use Rattle.std.specs.Fmt.{decimal}
+use Rattle.std.proofs.Common.{ℕ, ◌≡◌, ◌≤◌, inl, inr, ◌⊎◌, ◌++◌, false, List, Option, Some, None, ap, sym, subst, refl, arith}
 use Rattle.text_core.specs.declared.limits.TheConstants.{MOST_FILE_BYTES}
 use Rattle.text_core.specs.Names.{Text}
 use Rattle.logic_core.specs.declared.problem.Fof.{Fof}
@@ -21,7 +22,11 @@ use Rattle.proof_text.specs.declared.part.Edition.{Edition}
 use Rattle.proof_text.specs.declared.part.Edition.TheVariants.{First, Second}
 use Rattle.larus_cli.specs.declared.judge.Wanted.{Wanted}
 use Rattle.larus_cli.specs.declared.judge.Wanted.TheVariants.{Size, Script}
-use Rattle.larus_cli.specs.Words.{check_words, convert_words, rewrite_words, NamesProblem, NamesBoth}
+use Rattle.larus_cli.specs.declared.command.Command.TheVariants.{Prove}
+use Rattle.larus_cli.specs.declared.command.TheConstants.{MOST_STEPS}
+use Rattle.larus_cli.specs.Words.{command_of, search_within, names_in, names_of, check_words, prove_words, convert_words, rewrite_words}
+use Rattle.larus_cli.specs.Words.{to_print, to_prove, to_judge, NamesProblem, NamesTask, NamesBoth}
+use Rattle.larus_cli.proofs.Digits.{number_some}
 use Rattle.larus_cli.specs.Read.{ReadsProblem, ReadsTask, ReadsBytes}
 use Rattle.larus_cli.specs.Reports.{words_for}
 use Rattle.larus_cli.specs.Answers.{Answer, of_problem, as_second, problem_refused, formula_refused, too_long, proof_refused, fault}
@@ -37,6 +42,28 @@ pub names_rewrite : (edition : Edition) (words : List Text) (problem proof : Tex
 names_rewrite First words problem proof are = subst (λ ws. NamesBoth ws problem proof) (sym are) refl
 names_rewrite Second words problem proof are = subst (λ ws. NamesBoth ws problem proof) (sym are) refl
 
+-- the words by which a proof within a bound is sought are that command
+pub prove_command : (problem : Text) (most : ℕ) → most ≤ MOST_STEPS → command_of (prove_words problem most) ≡ Some (Prove most)
+prove_command problem most few = ap search_within (number_some MOST_STEPS most (decimal most) (omega arith) few refl)
+
+-- the file that those words name
+pub names_prove : (words : List Text) (problem : Text) (most : ℕ) → most ≤ MOST_STEPS → words ≡ prove_words problem most →
+    names_of words ≡ Some (problem, to_prove most)
+names_prove words problem most few are = subst (λ ws. names_of ws ≡ Some (problem, to_prove most)) (sym are)
+    (subst (λ command. names_in command (prove_words problem most) ≡ Some (problem, to_prove most)) (sym (prove_command problem most few)) refl)
+
+-- those words want the problem's task
+pub task_prove : (words : List Text) (problem : Text) (most : ℕ) → most ≤ MOST_STEPS → words ≡ prove_words problem most → NamesTask words problem
+task_prove words problem most few are = (to_prove most, names_prove words problem most few are, λ e. cc)
+
+-- words that name a second file want the problem's task
+pub task_both : (words : List Text) (problem second : Text) → NamesBoth words problem second → NamesTask words problem
+task_both words problem second names = (to_judge second, names, λ e. cc)
+
+-- words that want a problem's task name the problem
+pub problem_task : (words : List Text) (problem : Text) → NamesTask words problem → NamesProblem words problem
+problem_task words problem names = (names.0, names.1)
+
 -- the files that the words name that want something of a proof
 pub names_for : (wanted : Wanted) (words : List Text) (problem proof : Text) → words ≡ words_for wanted problem proof →
     NamesBoth words problem proof
@@ -45,7 +72,7 @@ names_for (Script edition) words problem proof are = names_rewrite edition words
 
 -- the file that the words of a conversion name
 pub names_convert : (words : List Text) (problem : Text) → words ≡ convert_words problem → NamesProblem words problem
-names_convert words problem are = subst (λ ws. NamesProblem ws problem) (sym are) (None, refl)
+names_convert words problem are = subst (λ ws. NamesProblem ws problem) (sym are) (to_print, refl)
 
 -- a refusal that does not come from outside decides the walk
 refused_told : (held : Option Held) (problem file : Text) (why : FlatWhy) → ¬ (IsOutside why) →
@@ -78,14 +105,14 @@ problem_told words files later problem file why names told fetched room =
     inner (inl e) = fetched e
     inner (inr e) = room e
 
--- a formula of the problem of a proof that is refused
-pub formula_told : (words : List Text) (files later : Known) (problem second : Text) (formulas : List Fof) (refusal : TaskRefusal) →
-    NamesBoth words problem second → ReadsProblem files problem formulas → refusal.why ≢ task.Memory →
+-- a formula of the problem that is refused
+pub formula_told : (words : List Text) (files later : Known) (problem : Text) (formulas : List Fof) (refusal : TaskRefusal) →
+    NamesTask words problem → ReadsProblem files problem formulas → refusal.why ≢ task.Memory →
     (refusal ≡ record { formula = 0; why = task.Memory }) ⊎ IsTaskFault formulas refusal →
     Answer words files later false (formula_text refusal) 2
-formula_told words files later problem second formulas refusal names reads some (inl e) = absurd (some (ap (λ (r : TaskRefusal). r.why) e))
-formula_told words files later problem second formulas refusal names reads some (inr is) =
-    formula_refused problem second formulas refusal names reads is
+formula_told words files later problem formulas refusal names reads some (inl e) = absurd (some (ap (λ (r : TaskRefusal). r.why) e))
+formula_told words files later problem formulas refusal names reads some (inr is) =
+    formula_refused problem formulas refusal names reads is
 
 -- a fetch that fails behind others
 fails_behind : {before middle later : Known} {name : Text} → Grows before middle → Fails middle later name → Fails before later name

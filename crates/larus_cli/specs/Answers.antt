@@ -1,6 +1,6 @@
 -- The table of answers, row by row: what the words ask for, what the files hold and did, and what
 -- is printed, where and with which status.
-use Rattle.std.specs.Prelude.{ℕ, ◌≡◌, ◌++◌, Bool, true, false, List, None, IfSome}
+use Rattle.std.specs.Prelude.{ℕ, ◌≡◌, ◌≤◌, ◌++◌, Bool, true, false, List, None, IfSome}
 use Rattle.text_core.specs.declared.limits.TheConstants.{MOST_FILE_BYTES}
 use Rattle.text_core.specs.Names.{Text}
 use Rattle.logic_core.specs.declared.problem.Fof.{Fof}
@@ -15,10 +15,12 @@ use Rattle.proof_text.specs.Values.{Written}
 use Rattle.proof_text.specs.Scripts.{ProofFault}
 use Rattle.proof_checker.specs.declared.refusal.StepRefusal.{StepRefusal}
 use Rattle.proof_checker.specs.Faults.{IsFault}
-use Rattle.larus_cli.specs.Words.{command_of, NamesProblem, NamesBoth}
+use Rattle.larus_cli.specs.declared.command.TheConstants.{MOST_STEPS}
+use Rattle.larus_cli.specs.Words.{command_of, prove_words, NamesProblem, NamesTask, NamesBoth}
 use Rattle.larus_cli.specs.Texts.{fault_text, too_long_text, flat_text, formula_text}
-use Rattle.larus_cli.specs.Texts.{script_text, step_text, usage_text}
+use Rattle.larus_cli.specs.Texts.{script_text, step_text, none_text, usage_text}
 use Rattle.larus_cli.specs.Read.{ReadsProblem, ReadsTask, ReadsBytes, ReadsScript}
+use Rattle.larus_cli.specs.Smallest.{HasNoProof}
 use Rattle.larus_cli.specs.Done.{Done}
 
 -- the files are asked for this one: by the walk over the problem, or as the second file
@@ -37,13 +39,17 @@ pub data Answer (words : List Text) (files later : Known) : Bool → Text → �
       (refusal : StepRefusal) → NamesBoth words problem second →
       ReadsScript files problem second task script → IsFault task script refusal →
       Answer words files later true (step_text refusal) 1
+  -- 1: no proof of the problem's task is within the bound
+  none_up_to : (problem : Text) (most : ℕ) (task : CitedTask) →
+      words ≡ prove_words problem most → most ≤ MOST_STEPS → ReadsTask files problem task →
+      HasNoProof task most → Answer words files later true (none_text most) 1
   -- 2: a file of the problem is refused
   problem_refused : (problem file : Text) (why : FlatWhy) → NamesProblem words problem →
       IfSome files.held (λ held. IsFlatRefused held problem file why) → ¬ (IsOutside why) →
       Answer words files later false (file ++ flat_text why) 2
-  -- 2: a formula of the problem of a proof is refused
-  formula_refused : (problem second : Text) (formulas : List Fof) (refusal : TaskRefusal) →
-      NamesBoth words problem second → ReadsProblem files problem formulas →
+  -- 2: a formula of the problem is refused, where its task is wanted
+  formula_refused : (problem : Text) (formulas : List Fof) (refusal : TaskRefusal) →
+      NamesTask words problem → ReadsProblem files problem formulas →
       IsTaskFault formulas refusal →
       Answer words files later false (formula_text refusal) 2
   -- 3: the second file has too many bytes

@@ -1,9 +1,12 @@
+pub mod Numerals
 pub mod Words
 pub mod Texts
 pub mod Follows
 pub mod Read
 pub mod Printed
+pub mod Smallest
 pub mod Done
+pub mod Sought
 pub mod Answers
 pub mod Reports
 pub mod Outcome

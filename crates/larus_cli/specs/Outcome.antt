@@ -1,9 +1,15 @@
 -- How a run of the program ends.
 use Rattle.std.specs.Prelude.{ℕ, ◌≡◌, ◌≢◌, Bool, true, false, List, None}
 use Rattle.text_core.specs.Names.{Text}
+use Rattle.vernacular_tree.specs.declared.tree.Body.{Body}
 use Rattle.io_core.specs.Known.{Known}
 use Rattle.io_core.specs.Stream.{Stream, Puts, Breaks}
-use Rattle.larus_cli.specs.Words.{command_of}
+use Rattle.coherent_form.specs.Tasks.{CitedTask}
+use Rattle.proof_text.specs.declared.part.Edition.TheVariants.{First}
+use Rattle.proof_text.specs.Canonical.{script_text}
+use Rattle.proof_text.specs.ScriptOf.{script_of}
+use Rattle.larus_cli.specs.Words.{command_of, prove_words}
+use Rattle.larus_cli.specs.Smallest.{IsSmallest}
 use Rattle.larus_cli.specs.Answers.{Answer}
 
 -- the output and the errors at a moment
@@ -42,10 +48,21 @@ pub record IsSettled (status : ℕ) : Type 0 where
   pub room : status ≢ 71
   pub put : status ≢ 74
 
--- two runs put one text to the same sink, with one status
-pub record EndAlike (old new before after : Sinks) (status other : ℕ) : Type 0 where
+-- what two runs with the same words put: one text, or where a proof is sought, the texts of two
+-- smallest proofs of one task
+pub data Alike (words : List Text) : Text → Text → Type 0 where
+  one_text : (text : Text) → Alike words text text
+  two_smallest : (problem : Text) (most : ℕ) (task : CitedTask) (body other : Body) →
+      words ≡ prove_words problem most → IsSmallest task body → IsSmallest task other →
+      Alike words (script_text (script_of First task body)) (script_text (script_of First task other))
+
+-- two runs with the same words put alike texts to the same sink, with one status
+pub record EndAlike (words : List Text) (old new before after : Sinks) (status other : ℕ)
+    : Type 0 where
   pub output : Bool
   pub text : Text
+  pub another : Text
   pub first : PutsTo output old new text
-  pub second : PutsTo output before after text
+  pub second : PutsTo output before after another
+  pub alike : Alike words text another
   pub same : status ≡ other

@@ -5,7 +5,7 @@ use Rattle.io_core.specs.Known.{Known}
 use Rattle.larus_cli.specs.declared.report.ProofWhy.{ProofWhy}
 use Rattle.larus_cli.specs.declared.report.ProofWhy.TheVariants as proof
 use Rattle.larus_cli.specs.declared.report.Report.{Report}
-use Rattle.larus_cli.specs.declared.report.Report.TheVariants.{Accepted, Refused, Converted, FileFault}
+use Rattle.larus_cli.specs.declared.report.Report.TheVariants.{Accepted, Refused, Converted, NoneUpTo, FileFault}
 use Rattle.larus_cli.specs.declared.report.Report.TheVariants.{ProblemFile, ProblemFormula, ProofFile}
 use Rattle.larus_cli.specs.declared.reply.Reply.{Reply}
 use Rattle.larus_cli.specs.declared.reading.Halt.{Halt}
@@ -14,7 +14,7 @@ use Rattle.larus_cli.specs.declared.judge.Wanted.{Wanted}
 use Rattle.larus_cli.specs.declared.judge.Wanted.TheVariants.{Size, Script}
 use Rattle.larus_cli.specs.Words.{check_words, rewrite_words}
 use Rattle.larus_cli.specs.Texts.{fault_text, too_long_text, flat_text}
-use Rattle.larus_cli.specs.Texts.{formula_text, script_text, step_text, accepted_text}
+use Rattle.larus_cli.specs.Texts.{formula_text, script_text, step_text, accepted_text, none_text}
 use Rattle.larus_cli.specs.Answers.{Answer}
 
 -- what is behind the name of a proof's file
@@ -27,6 +27,7 @@ abbrev pub reply_of : Report → Reply
 reply_of (Accepted size) = record { text = accepted_text size; is_output = true; status = 0 }
 reply_of (Refused refusal) = record { text = step_text refusal; is_output = true; status = 1 }
 reply_of (Converted text) = record { text = text; is_output = true; status = 0 }
+reply_of (NoneUpTo most) = record { text = none_text most; is_output = true; status = 1 }
 reply_of (FileFault file) = record { text = file ++ fault_text; is_output = false; status = 66 }
 reply_of (ProblemFile refusal) =
     record { text = refusal.file ++ flat_text refusal.why; is_output = false; status = 2 }

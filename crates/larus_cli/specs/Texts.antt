@@ -123,6 +123,9 @@ why_text why.GapOpen = codes "50 GapOpen"
 abbrev pub accepted_text : ℕ → Text
 accepted_text size = codes "accepted " ++ ended (decimal size)
 
+abbrev pub none_text : ℕ → Text
+none_text most = codes "none up to " ++ ended (decimal most)
+
 -- the number of a step that is refused, its rule, and why
 abbrev pub step_text : StepRefusal → Text
 step_text refusal = codes "refused " ++ decimal refusal.step ++ codes " " ++
@@ -130,5 +133,6 @@ step_text refusal = codes "refused " ++ decimal refusal.step ++ codes " " ++
 
 abbrev pub usage_text : Text
 usage_text = ended (codes "44 Usage") ++ ended (codes "check PROBLEM PROOF") ++
+    ended (codes "prove PROBLEM MOST") ++
     ended (codes "convert problem PROBLEM") ++ ended (codes "convert vernacular PROBLEM PROOF") ++
     ended (codes "convert version2 PROBLEM PROOF")

@@ -4,11 +4,12 @@ ghost use Rattle.larus_cli.specs.Words.{command_of, rewriting};
 ghost use Rattle.larus_cli.specs.Answers.{Answer};
 ghost use Rattle.larus_cli.specs.Reports.{Decides};
 
-use crate::command::{Command, check_names, convert_name, rewrite_names};
+use crate::command::{Command, check_names, convert_name, prove_name, rewrite_names};
 use crate::judge::{Wanted, judge};
-use crate::reading::{Halt, read_problem};
+use crate::reading::{Halt, read_problem, read_task};
 use crate::reply::{Reply, reply_of};
 use crate::report::Report;
+use crate::search::prove_task;
 use io_core::Files;
 use logic_core::{Bytes, Memory};
 use proof_text::Edition;
@@ -23,6 +24,17 @@ fn check<F: Files>(alloc: Global, words: &[Bytes], files: &mut F) -> Result<Repo
 {
     let (problem, proof) = check_names(words);
     judge(alloc, Wanted::Size, files, problem, proof)
+}
+
+/// What there is to say of a problem of which a proof within a bound is sought.
+fn prove<F: Files>(alloc: Global, words: &[Bytes], most: u32, files: &mut F) -> Result<Report, Halt>
+    requires { command_of words.now ≡ Some (Command.Prove most) }
+    ensures decides { Decides words.now (F.known files.old) (F.known files.new) result }
+    ensures grows { Grows (F.known files.old) (F.known files.new) }
+{
+    let problem = prove_name(words, most);
+    let task = read_task(alloc, files, problem)?;
+    prove_task(alloc, &task, most)
 }
 
 /// What there is to say of a proof that is to be printed in this version.
@@ -64,6 +76,7 @@ fn decide<F: Files>(
 {
     match command {
         Command::Check => check(alloc, words, files),
+        Command::Prove(most) => prove(alloc, words, most, files),
         Command::ConvertProblem => convert_problem(alloc, words, files),
         Command::ConvertVernacular => convert_proof(alloc, words, Edition::First, files),
         Command::ConvertVersion2 => convert_proof(alloc, words, Edition::Second, files),

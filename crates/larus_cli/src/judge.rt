@@ -42,7 +42,12 @@ fn script_for(alloc: Global, edition: Edition, task: &Task, proof: &Proof) -> Re
 }
 
 /// The canonical text of the script of this version that stands for a proof of a task.
-fn text_for(alloc: Global, edition: Edition, task: &Task, proof: &Proof) -> Result<Bytes, Memory>
+pub(crate) fn text_for(
+    alloc: Global,
+    edition: Edition,
+    task: &Task,
+    proof: &Proof,
+) -> Result<Bytes, Memory>
     requires { Proves (proof_task task.now) proof.now }
     ensures text { IfOk result (λ text. text ≡ script_text (standing edition task.now proof.now)) }
     ensures back { IfOk result (λ text. ReadsBackAs edition text task.now proof.now) }

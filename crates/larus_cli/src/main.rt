@@ -10,14 +10,16 @@ mod command;
 mod decide;
 mod judge;
 mod law;
+mod number;
 mod reading;
 mod reply;
 mod report;
 mod run;
+mod search;
 #[cfg(test)]
 mod tests;
 
-pub use command::{Command, read_words};
+pub use command::{Command, MOST_STEPS, read_words};
 pub use law::one_outcome;
 pub use reply::message;
 pub use report::{ProofRefusal, ProofWhy, Report};

@@ -6,7 +6,7 @@ ghost use Rattle.io_core.specs.Fetched.{Grows, Holds};
 ghost use Rattle.coherent_form.specs.Tasks.{CitedTask};
 ghost use Rattle.proof_text.specs.Scripts.{IsScriptOf};
 ghost use Rattle.larus_cli.specs.declared.report.Report.TheVariants.{ProofFile};
-ghost use Rattle.larus_cli.specs.Words.{NamesProblem, NamesBoth};
+ghost use Rattle.larus_cli.specs.Words.{NamesProblem, NamesTask, NamesBoth};
 ghost use Rattle.larus_cli.specs.Read.{ReadsProblem, ReadsTask, ReadsBytes};
 ghost use Rattle.larus_cli.specs.Reports.{Halts};
 
@@ -58,10 +58,10 @@ pub(crate) fn read_problem<F: Files>(
     }
 }
 
-/// The task of the problem in a file, for a command that reads a second file.
+/// The task of the problem in a file.
 pub(crate) fn read_task<F: Files>(alloc: Global, files: &mut F, name: &[u8]) -> Result<Task, Halt>
     ensures reads { IfOk result (ReadsTask (F.known files.old) name.now) }
-    ensures halts { (words : Lst Text) (second : Text) → NamesBoth words name.now second
+    ensures halts { (words : Lst Text) → NamesTask words name.now
         → IfErr result (Halts words (F.known files.old) (F.known files.new)) }
     ensures grows { Grows (F.known files.old) (F.known files.new) }
 {

@@ -222,6 +222,14 @@ fn accepted(alloc: Global, size: u32) -> Result<Bytes, Memory>
     Ok(all)
 }
 
+fn none_up_to(alloc: Global, most: u32) -> Result<Bytes, Memory>
+    ensures { IfOk result (λ all. all ≡ texts.none_text most) }
+{
+    let mut all = numbered(alloc, b"none up to ", most)?;
+    all.push(b'\n')?;
+    Ok(all)
+}
+
 /// An answer for the output.
 fn answered(text: Bytes, status: u8) -> Reply
     ensures { result ≡ record { text = text; is_output = true; status = status } }
@@ -252,6 +260,7 @@ pub(crate) fn reply_of(alloc: Global, report: Report) -> Result<Reply, Memory>
         Report::Accepted(size) => answered(accepted(alloc, size)?, 0),
         Report::Refused(refusal) => answered(step(alloc, &refusal)?, 1),
         Report::Converted(text) => answered(text, 0),
+        Report::NoneUpTo(most) => answered(none_up_to(alloc, most)?, 1),
         Report::FileFault(file) => complained(
             named(alloc, file.as_slice(), b": 11 FileFault")?,
             66,

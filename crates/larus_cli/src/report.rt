@@ -30,6 +30,8 @@ pub enum Report {
     Refused(StepRefusal),
     /// The canonical text of the problem, or of a script that stands for the proof.
     Converted(Bytes),
+    /// No proof of the problem has so many rule applications or fewer.
+    NoneUpTo(u32),
     /// This file could not be fetched.
     FileFault(Bytes),
     /// A file of the problem is refused, for another reason than a fetch that failed.

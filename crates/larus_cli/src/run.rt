@@ -1,4 +1,5 @@
 ghost use Rattle.std.specs.Prelude.{◌≡◌, ◌≤◌, ◌⊎◌, [], ◌∷◌, ℕ, List, None, codes};
+ghost use Rattle.std.specs.Fmt.{decimal};
 ghost use Rattle.logic_core.specs.Truth.{structure};
 ghost use Rattle.text_core.specs.Lists.{IsAmong};
 ghost use Rattle.text_core.specs.Names.{Text};
@@ -9,9 +10,10 @@ ghost use Rattle.proof_text.specs.declared.part.Edition.{Edition};
 ghost use Rattle.larus_cli.specs.Words.{command_of, edition_word};
 ghost use Rattle.larus_cli.specs.Follows.{ProblemFollows};
 ghost use Rattle.larus_cli.specs.Printed.{ProblemPrinted, ProofPrinted};
+ghost use Rattle.larus_cli.specs.Sought.{SmallestPrinted, NoneTold};
 ghost use Rattle.larus_cli.specs.Outcome.{Outcome, sinks};
 
-use crate::command::read_words;
+use crate::command::{MOST_STEPS, read_words};
 use crate::decide::reply_to;
 use coherent_form::proved_task_follows;
 use io_core::{Files, Sink};
@@ -21,6 +23,7 @@ use std::alloc::Global;
 /// What the program prints where its words are no command.
 const USAGE: &[u8] = b"44 Usage
 check PROBLEM PROOF
+prove PROBLEM MOST
 convert problem PROBLEM
 convert vernacular PROBLEM PROOF
 convert version2 PROBLEM PROOF
@@ -73,8 +76,9 @@ fn answer<F: Files, O: Sink, E: Sink>(
 
 /// The program: it does what the words, those after the program's name, ask for, with these files
 /// and these two sinks, and answers the status with which it ends. 0: the proof is accepted, and
-/// printed where that is asked for, or the problem is printed. 1: the proof is not accepted. 2: a
-/// file or a formula of the problem is refused. 3: the proof's file is refused. 64: the words are
+/// printed where that is asked for, or a proof is found and printed, or the problem is printed. 1:
+/// the proof is not accepted, or there is none within the bound. 2: a file or a formula of the
+/// problem is refused. 3: the proof's file is refused. 64: the words are
 /// no command. 66: a file could not be fetched. 71: want of memory. 74: the sink of the answer
 /// failed. What is said of structures holds in each structure of every family `W`, which no code
 /// can look at.
@@ -91,6 +95,15 @@ pub fn run<W: World, F: Files, O: Sink, E: Sink>(
         → words.now ≡ codes "check" ∷ problem ∷ proof ∷ [] → result ≡ 0
         → ProblemFollows (structure (W.element k) (W.holds k) (W.place k))
         (F.known files.old) problem }
+    // A proof that was sought: what is printed reads back as a script that is accepted as a proof
+    // of the problem with the fewest rule applications of all, at most so many.
+    ensures proved { (problem : Text) (most : ℕ) → most ≤ MOST_STEPS
+        → words.now ≡ codes "prove" ∷ problem ∷ decimal most ∷ [] → result ≡ 0
+        → SmallestPrinted (F.known files.old) problem most (O.stream out.old) (O.stream out.new) }
+    // No proof of the problem has so many rule applications or fewer.
+    ensures none { (problem : Text) (most : ℕ) → most ≤ MOST_STEPS
+        → words.now ≡ codes "prove" ∷ problem ∷ decimal most ∷ [] → result ≡ 1
+        → NoneTold (F.known files.old) problem most (O.stream out.old) (O.stream out.new) }
     // A converted problem: what is printed reads back as the formulas of the problem, so it is true
     // in the same structures.
     ensures printed { (problem : Text)

@@ -644,6 +644,7 @@ fn other_words_get_the_usage_text(rt: HostRuntime) -> Result<(), Fail> {
             b"",
             b"44 Usage
 check PROBLEM PROOF
+prove PROBLEM MOST
 convert problem PROBLEM
 convert vernacular PROBLEM PROOF
 convert version2 PROBLEM PROOF

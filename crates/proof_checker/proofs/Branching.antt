@@ -1,5 +1,5 @@
 -- The proofs of a split's cases as a list.
-use Rattle.std.proofs.Common.{◌≡◌, ℕ, List, [], ◌∷◌, slice_get, Some, subst, sym}
+use Rattle.std.proofs.Common.{◌≡◌, ℕ, List, [], ◌∷◌, length, slice_get, Some, ap, subst, sym, arith}
 use Rattle.logic_core.specs.declared.form.Atom.{Atom}
 use Rattle.vernacular_tree.specs.Contexts.{Task, with_facts}
 use Rattle.vernacular_tree.specs.Rules.{StepsThen, Closes, EachProves}
@@ -8,7 +8,7 @@ use Rattle.vernacular_tree.specs.declared.context.Context.{Context}
 use Rattle.vernacular_tree.specs.declared.tree.Body.{Body}
 use Rattle.vernacular_tree.specs.declared.tree.End.{Cs}
 use Rattle.vernacular_tree.specs.declared.tree.End.TheBlock.{shape-the_row-Body-0}
-use Rattle.vernacular_tree.proofs.Rows.{row_of, Cs_opens}
+use Rattle.vernacular_tree.proofs.Laws.{row_of, Cs_opens}
 
 -- there are as many bodies as lists, and each is a proof from the context with its list
 abbrev pub BodiesProve : Task → List Body → List (List Atom) → Context → Type 0
@@ -44,3 +44,11 @@ pub closes_Cs : (task : Task) (line : ℕ) (bodies : List Body) (lists : List (L
     → slice_get context.lines line ≡ Some (Cases lists) → BodiesProve task bodies lists context → Closes task (Cs line bodies) context
 closes_Cs task line bodies lists context at each =
     subst (λ end. Closes task end context) (sym (Cs_opens line bodies)) (lists, at, proves_row task bodies lists context each)
+
+-- there are as many bodies as lists
+pub bodies_many : (task : Task) (bodies : List Body) (lists : List (List Atom)) (context : Context) → BodiesProve task bodies lists context → length bodies ≡ length lists
+bodies_many task [] lists context prove = sym (ap length prove)
+bodies_many task (body ∷ bodies) lists context (facts, more, is, proves, rest) =
+    let tail : length bodies ≡ length more = bodies_many task bodies more context rest in
+    let long : length lists ≡ length (facts ∷ more) = ap length is in
+    omega arith

@@ -1,37 +1,37 @@
 -- Cases that were checked one after another, and the split that they make.
-use Rattle.std.proofs.Common.{◌≡◌, ℕ, zero, suc, ◌+◌, ◌<◌, ◌≤◌, inl, inr, List, [], ◌∷◌, ◌++◌, length, take, map, get_or, slice_get, Option, Some, refl, ap, sym, ◌∙◌, subst, arith}
-use Rattle.std.specs.Prelude.{zip}
-use Rattle.std.specs.List.{AllByRecursion}
-use Rattle.std.proofs.lemmas.List.{map-append}
+use Rattle.std.proofs.Common.{◌≡◌, ℕ, Bool, zero, suc, ◌+◌, ◌<◌, ◌≤◌, inl, inr, List, [], ◌∷◌, ◌++◌, length, take, map, get_or, slice_get, Option, Some, refl, ap, sym, ◌∙◌, subst, arith, append_assoc, append-nil}
+use Rattle.std.proofs.lemmas.List.{map-append, length-map}
 use Rattle.std.proofs.lemmas.List.Sums.{sum_by-cons}
 use Rattle.text_core.specs.Lists.{SomeOf}
 use Rattle.text_core.proofs.Laws.{take_next, take_all, value_same, each_get}
 use Rattle.logic_core.specs.declared.form.Atom.{Atom}
 use Rattle.vernacular_tree.specs.declared.context.Line.TheVariants as line
-use Rattle.vernacular_tree.specs.declared.tree.Body.{Body}
-use Rattle.vernacular_tree.specs.declared.tree.End as tree
-use Rattle.coherent_form.specs.Tasks.{CitedTask, proof_task}
+use Rattle.vernacular_tree.specs.declared.tree.Node.TheVariants as node
+use Rattle.coherent_form.specs.Tasks.{CitedTask}
 use Rattle.proof_text.specs.declared.body.CaseText.{CaseText}
 use Rattle.proof_text.specs.declared.body.NamedAtom.{NamedAtom}
 use Rattle.proof_text.specs.declared.body.EndText.{EndText, As, Efq, Gap, Cs, Cs'}
 use Rattle.proof_text.specs.declared.body.EndText.TheBlock.{shape-the_row-CaseText-0}
 use Rattle.proof_text.specs.Sizes.{size, case_sizes, end_size}
 use Rattle.proof_text.proofs.Rows.{row_of, Cs_opens}
-use Rattle.proof_text.specs.StandsFor.{AreCitedOnce, EndStands, CasesStand}
+use Rattle.proof_text.specs.StandsFor.{AreCitedOnce}
 use Rattle.proof_text.specs.Branches.{Branch, with_case}
-use Rattle.proof_checker.specs.Faults.{shown_in, IsRefusedAt, CaseShows, SplitFault, IsSplit, EndFault, CasesFault}
+use Rattle.proof_checker.specs.Faults.{shown_in, IsRefusedAt, SplitFault, IsSplit, EndFault, CasesFault}
 use Rattle.proof_checker.specs.Kept.{Kept, IsKept, HasCase, LineFits, FactsFit, atom_seen, line_seen, branch_of}
-use Rattle.proof_checker.specs.Running.{BodyIs, BodyFault, CasesAre, CasesFail, EndIs, sizes_of}
+use Rattle.proof_checker.specs.Opened.{EndOpens, CasesOpen, BodyOpens}
+use Rattle.proof_checker.specs.Running.{BodyFault, CasesAre, CasesFail, Adds, sizes_of}
+use Rattle.proof_checker.specs.declared.open_node.OpenNode.{OpenNode}
+use Rattle.proof_checker.specs.declared.open_node.OpenNode.TheVariants as open_node
 use Rattle.proof_checker.specs.declared.fact.Fact.{Fact}
 use Rattle.proof_checker.specs.declared.fact.HeldLine as HeldLine
 use Rattle.proof_checker.specs.declared.fact.HeldLine.TheVariants as held
 use Rattle.proof_checker.specs.declared.refusal.Rule.TheVariants as rule
 use Rattle.proof_checker.specs.declared.refusal.StepRefusal.{StepRefusal}
-use Rattle.proof_checker.proofs.Branching.{BodiesProve, closes_Cs}
 use Rattle.proof_checker.proofs.Compared.{get_map}
 use Rattle.proof_checker.proofs.Named.{item_read}
-use Rattle.proof_checker.proofs.OneBody.{cases_one}
-use Rattle.proof_checker.proofs.Running.{body_none}
+use Rattle.proof_checker.proofs.OneList.{cases_one}
+use Rattle.proof_checker.proofs.OneFault.{body_none}
+use Rattle.proof_checker.proofs.Running.{take_long}
 
 -- what the cases of a list show
 abbrev pub shown_of : List CaseText → List (Option (List NamedAtom))
@@ -142,69 +142,84 @@ pub case_fits : (task : CitedTask) (kept : Kept) (number case : ℕ) (lists : Li
 case_fits task kept number case lists facts is at here =
     each_get (FactsFit kept.signed) lists case facts (each_get (LineFits kept.signed) kept.lines number (held.Cases lists) is.lines at) here
 
-module _ (task : CitedTask) where
-  -- no cases
-  pub cases_none_are : (lists : List (List Atom)) (branch : Branch) → CasesAre task [] (take 0 lists) branch []
-  cases_none_are [] branch = refl
-  cases_none_are (facts ∷ lists) branch = refl
-
+module _ (task : CitedTask) (gaps : Bool) where
   -- one more case
-  cases_last : (cases : List CaseText) (lists : List (List Atom)) (branch : Branch) (bodies : List Body) (case : CaseText) (facts : List Atom) (body : Body)
-      → CasesAre task cases lists branch bodies → BodyIs task case.body (with_case branch facts) body
-      → CasesAre task (cases ++ case ∷ []) (lists ++ facts ∷ []) branch (bodies ++ body ∷ [])
-  cases_last [] [] branch [] case facts body are is = (is, refl)
-  cases_last [] (f ∷ lists) branch [] case facts body are is = absurd (cc)
-  cases_last [] lists branch (b ∷ bodies) case facts body are is = absurd are
-  cases_last (c ∷ cases) lists branch [] case facts body are is = absurd are
-  cases_last (c ∷ cases) [] branch (b ∷ bodies) case facts body are is = absurd are
-  cases_last (c ∷ cases) (f ∷ lists) branch (b ∷ bodies) case facts body are is = (are.0, cases_last cases lists branch bodies case facts body are.1 is)
+  cases_last : (cases : List CaseText) (lists : List (List Atom)) (nodes : List OpenNode) (branch : Branch) (case : CaseText) (facts : List Atom) (more : List OpenNode)
+      → slice_get lists (length cases) ≡ Some facts → CasesAre task gaps cases lists nodes branch → BodyOpens task gaps case.body more (with_case branch facts)
+      → CasesAre task gaps (cases ++ case ∷ []) lists (nodes ++ more) branch
+  cases_last [] [] nodes branch case facts more at are opens = absurd (cc)
+  cases_last [] (list ∷ lists) nodes branch case facts more at are opens =
+      let same : facts ≡ list = sym (value_same at) in
+      (more, [], ap (λ (ns : List OpenNode). ns ++ more) are ∙ sym (append-nil more), subst (λ d. BodyOpens task gaps case.body more (with_case branch d)) same opens, refl)
+  cases_last (c ∷ cases) [] nodes branch case facts more at are opens = absurd are
+  cases_last (c ∷ cases) (list ∷ lists) nodes branch case facts more at (first, others, is, here, later) opens = (
+    first,
+    others ++ more,
+    ap (λ (ns : List OpenNode). ns ++ more) is ∙ append_assoc first others more,
+    here,
+    cases_last cases lists others branch case facts more at later opens,
+  )
 
-  -- one more case, in a loop
-  pub cases_next : (cases : List CaseText) (lists : List (List Atom)) (branch : Branch) (i : ℕ) (bodies longer : List Body) (case : CaseText) (facts : List Atom) (body : Body)
-      → i < length cases → case ≡ get_or cases i case → slice_get lists i ≡ Some facts → CasesAre task (take i cases) (take i lists) branch bodies
-      → BodyIs task case.body (with_case branch facts) body → longer ≡ bodies ++ body ∷ [] → CasesAre task (take (i + 1) cases) (take (i + 1) lists) branch longer
-  cases_next cases lists branch i bodies longer case facts body below is at are here grown =
-      let more : take (i + 1) cases ≡ take i cases ++ case ∷ [] = take_next cases i case (item_read cases i case below is) in
-      let next : take (i + 1) lists ≡ take i lists ++ facts ∷ [] = take_next lists i facts at in
-      subst (CasesAre task (take (i + 1) cases) (take (i + 1) lists) branch) (sym grown)
-      (subst (λ (cs : List CaseText). CasesAre task cs (take (i + 1) lists) branch (bodies ++ body ∷ [])) (sym more)
-      (subst (λ (ls : List (List Atom)). CasesAre task (take i cases ++ case ∷ []) ls branch (bodies ++ body ∷ [])) (sym next)
-      (cases_last (take i cases) (take i lists) branch bodies case facts body are here)))
+  -- no cases add no nodes
+  pub cases_added_none : (lists : List (List Atom)) (branch : Branch) (nodes : List OpenNode) → Adds (λ more. CasesAre task gaps [] lists more branch) nodes nodes
+  cases_added_none lists branch nodes = record { more = []; are = sym (append-nil nodes); hold = refl }
+
+  -- a case adds its nodes
+  pub cases_added_next : (cases : List CaseText) (i : ℕ) (case : CaseText) (lists : List (List Atom)) (branch : Branch) (facts : List Atom) (before between after : List OpenNode)
+      → i < length cases → case ≡ get_or cases i case → slice_get lists i ≡ Some facts → Adds (λ more. CasesAre task gaps (take i cases) lists more branch) before between
+      → Adds (λ more. BodyOpens task gaps case.body more (with_case branch facts)) between after
+      → Adds (λ more. CasesAre task gaps (take (i + 1) cases) lists more branch) before after
+  cases_added_next cases i case lists branch facts before between after below is at so_far added =
+      let next : take (i + 1) cases ≡ take i cases ++ case ∷ [] = take_next cases i case (item_read cases i case below is) in
+      let long : length (take i cases) ≡ i = take_long task cases i (omega (arith, below)) in
+      record {
+        more = so_far.more ++ added.more;
+        are = added.are ∙ ap (λ (ns : List OpenNode). ns ++ added.more) so_far.are ∙ append_assoc before so_far.more added.more;
+        hold = subst (λ (cs : List CaseText). CasesAre task gaps cs lists (so_far.more ++ added.more) branch) (sym next)
+            (cases_last (take i cases) lists so_far.more branch case facts added.more (subst (λ (k : ℕ). slice_get lists k ≡ Some facts) (sym long) at) so_far.hold added.hold);
+      }
 
   -- all cases, where the loop is through
-  pub cases_all : (cases : List CaseText) (lists : List (List Atom)) (branch : Branch) (i : ℕ) (bodies : List Body) → length cases ≤ i → length cases ≡ length lists
-      → CasesAre task (take i cases) (take i lists) branch bodies → CasesAre task cases lists branch bodies
-  cases_all cases lists branch i bodies whole same are =
-      subst (λ (ls : List (List Atom)). CasesAre task cases ls branch bodies) (take_all lists i (omega (arith, whole, same)))
-      (subst (λ (cs : List CaseText). CasesAre task cs (take i lists) branch bodies) (take_all cases i whole) are)
+  pub cases_added_all : (cases : List CaseText) (lists : List (List Atom)) (branch : Branch) (i : ℕ) (before after : List OpenNode) → length cases ≤ i
+      → Adds (λ more. CasesAre task gaps (take i cases) lists more branch) before after → Adds (λ more. CasesAre task gaps cases lists more branch) before after
+  cases_added_all cases lists branch i before after whole added =
+      subst (λ (cs : List CaseText). Adds (λ more. CasesAre task gaps cs lists more branch) before after) (take_all cases i whole) added
 
   -- a fault in a case behind others that have none
-  pub cases_fault_at : AreCitedOnce task → (cases : List CaseText) (lists : List (List Atom)) (branch : Branch) (i : ℕ) (bodies : List Body) (case : CaseText) (facts : List Atom)
+  fault_at : AreCitedOnce task → (cases : List CaseText) (lists : List (List Atom)) (nodes : List OpenNode) (branch : Branch) (i : ℕ) (case : CaseText) (facts : List Atom)
       (number at : ℕ) (refusal : StepRefusal) → slice_get cases i ≡ Some case → slice_get lists i ≡ Some facts
-      → CasesAre task (take i cases) (take i lists) branch bodies → at ≡ number + sizes_of (take i cases)
-      → BodyFault task case.body at (with_case branch facts) refusal → CasesFail task cases lists number branch refusal
-  cases_fault_at once [] lists branch i bodies case facts number at refusal left right are is fault = absurd (cc)
-  cases_fault_at once (c ∷ cases) [] branch i bodies case facts number at refusal left right are is fault = absurd (let bad : _ = right in cc)
-  cases_fault_at once (c ∷ cases) (f ∷ lists) branch zero bodies case facts number at refusal left right are is fault =
+      → CasesAre task gaps (take i cases) lists nodes branch → at ≡ number + sizes_of (take i cases)
+      → BodyFault task gaps case.body at (with_case branch facts) refusal → CasesFail task gaps cases lists number branch refusal
+  fault_at once [] lists nodes branch i case facts number at refusal left right are is fault = absurd (cc)
+  fault_at once (c ∷ cases) [] nodes branch i case facts number at refusal left right are is fault = absurd (let bad : _ = right in cc)
+  fault_at once (c ∷ cases) (f ∷ lists) nodes branch zero case facts number at refusal left right are is fault =
       let one : case ≡ c = sym (value_same left) in
       let two : facts ≡ f = sym (value_same right) in
       let none : sizes_of [] ≡ 0 = refl in
       let here : at ≡ number = omega arith in
-      inl (subst (λ (n : ℕ). BodyFault task c.body n (with_case branch f) refusal) here
-      (subst (λ (x : CaseText). BodyFault task x.body at (with_case branch f) refusal) one
-      (subst (λ (d : List Atom). BodyFault task case.body at (with_case branch d) refusal) two fault)))
-  cases_fault_at once (c ∷ cases) (f ∷ lists) branch (suc i) [] case facts number at refusal left right are is fault = absurd are
-  cases_fault_at once (c ∷ cases) (f ∷ lists) branch (suc i) (b ∷ bodies) case facts number at refusal left right are is fault =
+      inl (subst (λ (n : ℕ). BodyFault task gaps c.body n (with_case branch f) refusal) here
+      (subst (λ (x : CaseText). BodyFault task gaps x.body at (with_case branch f) refusal) one
+      (subst (λ (d : List Atom). BodyFault task gaps case.body at (with_case branch d) refusal) two fault)))
+  fault_at once (c ∷ cases) (f ∷ lists) nodes branch (suc i) case facts number at refusal left right (first, others, nodes_are, opens, later) is fault =
       let sum : sizes_of (c ∷ take i cases) ≡ size c.body + sizes_of (take i cases) = sum_by-cons (λ (x : CaseText). size x.body) c (take i cases) in
       let shifted : at ≡ number + size c.body + sizes_of (take i cases) = omega arith in
       inr (
-        (λ other told. body_none task once c.body number (with_case branch f) b other are.0 told),
-        cases_fault_at once cases lists branch i bodies case facts (number + size c.body) at refusal left right are.1 shifted fault,
+        (λ other told. body_none task once gaps c.body first number (with_case branch f) other opens told),
+        fault_at once cases lists others branch i case facts (number + size c.body) at refusal left right later shifted fault,
       )
+
+  -- a fault in a case, in a loop
+  pub cases_fault_at : AreCitedOnce task → (cases : List CaseText) (i : ℕ) (case : CaseText) (lists : List (List Atom)) (branch : Branch) (facts : List Atom)
+      (before between : List OpenNode) (refusal : StepRefusal) → i < length cases → case ≡ get_or cases i case → slice_get lists i ≡ Some facts
+      → Adds (λ more. CasesAre task gaps (take i cases) lists more branch) before between → length between ≡ length before + sizes_of (take i cases)
+      → BodyFault task gaps case.body (length between + 1) (with_case branch facts) refusal → CasesFail task gaps cases lists (length before + 1) branch refusal
+  cases_fault_at once cases i case lists branch facts before between refusal below is at added long fault =
+      let number : length between + 1 ≡ length before + 1 + sizes_of (take i cases) = omega (arith, long) in
+      fault_at once cases lists added.more branch i case facts (length before + 1) (length between + 1) refusal (item_read cases i case below is) at added.hold number fault
 
   -- the fault of cases is that of their row
   cases_row_fault : (cases : List CaseText) (lists : List (List Atom)) (number : ℕ) (branch : Branch) (refusal : StepRefusal)
-      → CasesFail task cases lists number branch refusal → CasesFault task (row_of cases) lists number branch refusal
+      → CasesFail task gaps cases lists number branch refusal → CasesFault task gaps (row_of cases) lists number branch refusal
   unfolding row_of shape-the_row-CaseText-0
   cases_row_fault [] lists number branch refusal fault = fault
   cases_row_fault (case ∷ cases) [] number branch refusal fault = fault
@@ -213,47 +228,56 @@ module _ (task : CitedTask) where
       let shifted : number + size case.body ≡ number + length case.body.steps + end_size case.body.end = omega arith in
       inr (
         later.0,
-        subst (λ (n : ℕ). CasesFault task (row_of cases) lists n branch refusal) shifted
+        subst (λ (n : ℕ). CasesFault task gaps (row_of cases) lists n branch refusal) shifted
             (cases_row_fault cases lists (number + size case.body) branch refusal later.1),
       )
 
   -- a split is refused for its line
   pub split_fault : (line number : ℕ) (cases : List CaseText) (branch : Branch) (refusal : StepRefusal)
-      → IsRefusedAt number rule.Cs (SplitFault task branch line (shown_of cases)) refusal → EndFault task (Cs line cases) number branch refusal
-  split_fault line number cases branch refusal told = subst (λ (e : EndText). EndFault task e number branch refusal) (sym (Cs_opens line cases))
+      → IsRefusedAt number rule.Cs (SplitFault task branch line (shown_of cases)) refusal → EndFault task gaps (Cs line cases) number branch refusal
+  split_fault line number cases branch refusal told = subst (λ (e : EndText). EndFault task gaps e number branch refusal) (sym (Cs_opens line cases))
       (inl (subst (λ shown. IsRefusedAt number rule.Cs (SplitFault task branch line shown) refusal) (sym (shown_row cases)) told))
 
   -- a split is refused for a case
   pub split_case_fault : (line number : ℕ) (cases : List CaseText) (branch : Branch) (lists : List (List Atom)) (refusal : StepRefusal)
-      → IsSplit task branch line (shown_of cases) lists → CasesFail task cases lists (number + 1) branch refusal → EndFault task (Cs line cases) number branch refusal
-  split_case_fault line number cases branch lists refusal split told = subst (λ (e : EndText). EndFault task e number branch refusal) (sym (Cs_opens line cases))
+      → IsSplit task branch line (shown_of cases) lists → CasesFail task gaps cases lists (number + 1) branch refusal → EndFault task gaps (Cs line cases) number branch refusal
+  split_case_fault line number cases branch lists refusal split told = subst (λ (e : EndText). EndFault task gaps e number branch refusal) (sym (Cs_opens line cases))
       (inr (lists, subst (λ shown. IsSplit task branch line shown lists) (sym (shown_row cases)) split, cases_row_fault cases lists (number + 1) branch refusal told))
 
-  -- cases that show their lists and stand are those of their row
-  cases_row_stand : (cases : List CaseText) (lists : List (List Atom)) (branch : Branch) (bodies : List Body)
-      → AllByRecursion (CaseShows task branch) (zip (shown_of cases) lists) → CasesAre task cases lists branch bodies → CasesStand task (row_of cases) bodies lists branch
+  -- the nodes of cases are those of their row
+  cases_row_open : (cases : List CaseText) (lists : List (List Atom)) (nodes : List OpenNode) (branch : Branch)
+      → CasesAre task gaps cases lists nodes branch → CasesOpen task gaps (row_of cases) lists nodes branch
   unfolding row_of shape-the_row-CaseText-0
-  cases_row_stand [] lists branch [] shows are = (refl, are)
-  cases_row_stand [] lists branch (b ∷ bodies) shows are = absurd are
-  cases_row_stand (case ∷ cases) lists branch [] shows are = absurd are
-  cases_row_stand (case ∷ cases) [] branch (b ∷ bodies) shows are = absurd are
-  cases_row_stand (case ∷ cases) (facts ∷ lists) branch (body ∷ bodies) shows are =
-      (body, bodies, facts, lists, refl, refl, shows.0, are.0.stands, cases_row_stand cases lists branch bodies shows.1 are.1)
+  cases_row_open [] lists nodes branch are = are
+  cases_row_open (case ∷ cases) [] nodes branch are = are
+  cases_row_open (case ∷ cases) (facts ∷ lists) nodes branch (first, others, is, opens, later) =
+      (first, others, is, opens, cases_row_open cases lists others branch later)
 
-  -- their bodies are proofs
-  cases_prove : (cases : List CaseText) (lists : List (List Atom)) (branch : Branch) (bodies : List Body) → CasesAre task cases lists branch bodies
-      → BodiesProve (proof_task task) bodies lists branch.context
-  cases_prove [] lists branch [] are = are
-  cases_prove [] lists branch (b ∷ bodies) are = absurd are
-  cases_prove (case ∷ cases) lists branch [] are = absurd are
-  cases_prove (case ∷ cases) [] branch (b ∷ bodies) are = absurd are
-  cases_prove (case ∷ cases) (facts ∷ lists) branch (body ∷ bodies) are = (facts, lists, refl, are.0.proves, cases_prove cases lists branch bodies are.1)
+  -- a split adds its node and those of its cases
+  pub split_added : (line : ℕ) (cases : List CaseText) (branch : Branch) (lists : List (List Atom)) (before between after : List OpenNode)
+      → IsSplit task branch line (shown_of cases) lists → between ≡ before ++ open_node.Rule (node.Cs line (length cases)) ∷ []
+      → Adds (λ more. CasesAre task gaps cases lists more branch) between after → Adds (λ more. EndOpens task gaps (Cs line cases) more branch) before after
+  split_added line cases branch lists before between after split is added =
+      let many : length cases ≡ length lists = sym (length-map cases (λ (case : CaseText). case.shown)) ∙ split.as_many in
+      let first : open_node.Rule (node.Cs line (length cases)) ∷ added.more ≡ open_node.Rule (node.Cs line (length lists)) ∷ added.more
+      = ap (λ (k : ℕ). open_node.Rule (node.Cs line k) ∷ added.more) many in
+      record {
+        more = open_node.Rule (node.Cs line (length cases)) ∷ added.more;
+        are = added.are ∙ ap (λ (ns : List OpenNode). ns ++ added.more) is ∙ append_assoc before (open_node.Rule (node.Cs line (length cases)) ∷ []) added.more;
+        hold = subst (λ (e : EndText). EndOpens task gaps e (open_node.Rule (node.Cs line (length cases)) ∷ added.more) branch) (sym (Cs_opens line cases)) (
+          lists,
+          added.more,
+          first,
+          subst (λ shown. IsSplit task branch line shown lists) (sym (shown_row cases)) split,
+          cases_row_open cases lists added.more branch added.hold,
+        );
+      }
 
-  -- a split whose cases stand
-  pub split_stands : (line : ℕ) (cases : List CaseText) (branch : Branch) (lists : List (List Atom)) (bodies : List Body) → IsSplit task branch line (shown_of cases) lists
-      → CasesAre task cases lists branch bodies → EndIs task (Cs line cases) branch (tree.Cs line bodies)
-  split_stands line cases branch lists bodies split are = record {
-    stands = subst (λ (e : EndText). EndStands task e (tree.Cs line bodies) branch) (sym (Cs_opens line cases))
-        (bodies, lists, refl, split.line_is, cases_row_stand cases lists branch bodies split.shows are);
-    closes = closes_Cs (proof_task task) line bodies lists branch.context split.line_is (cases_prove cases lists branch bodies are);
+  -- an end adds its node
+  pub end_added : (end written : EndText) (branch : Branch) (one other : OpenNode) (before after : List OpenNode) → end ≡ written → one ≡ other
+      → EndOpens task gaps written (other ∷ []) branch → after ≡ before ++ one ∷ [] → Adds (λ more. EndOpens task gaps end more branch) before after
+  end_added end written branch one other before after end_is one_is opens is = record {
+    more = other ∷ [];
+    are = is ∙ ap (λ (n : OpenNode). before ++ n ∷ []) one_is;
+    hold = subst (λ (e : EndText). EndOpens task gaps e (other ∷ []) branch) (sym end_is) opens;
   }

@@ -13,7 +13,8 @@ pub mod Started
 pub mod Labelled
 pub mod Elements
 pub mod Branching
-pub mod OneBody
+pub mod OneList
 pub mod OneFault
+pub mod Opening
 pub mod Sized
 pub mod Laws

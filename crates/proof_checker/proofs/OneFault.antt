@@ -1,22 +1,19 @@
--- A script that is accepted has no fault, and one that is not accepted has one fault.
-use Rattle.std.proofs.Common.{◌≡◌, ℕ, zero, suc, ◌+◌, ◌-◌, ◌<◌, ◌≤◌, inl, inr, List, [], ◌∷◌, ◌++◌, length, slice_get, Option, Some, zip, refl, ap, sym, ◌∙◌, subst, arith}
-use Rattle.std.specs.List.{AllByRecursion}
+-- A script has one first fault, and none where it is open.
+use Rattle.std.proofs.Common.{◌≡◌, ℕ, Bool, true, zero, suc, ◌+◌, ◌-◌, ◌<◌, ◌≤◌, inl, inr, List, [], ◌∷◌, ◌++◌, length, slice_get, Option, Some, zip, refl, sym, ◌∙◌, subst, arith}
 use Rattle.text_core.specs.Names.{Text}
 use Rattle.text_core.specs.Lists.{IsAmong}
 use Rattle.text_core.proofs.Laws.{value_same, some_at}
 use Rattle.logic_core.specs.declared.form.Atom.{Atom}
 use Rattle.logic_core.specs.declared.form.Form.{Form}
 use Rattle.vernacular_tree.specs.Contexts.{parameters, atom_at, Stands as HasFact}
-use Rattle.vernacular_tree.specs.Rules.{IsInstance, IsAnswer, StepsThen, Closes}
+use Rattle.vernacular_tree.specs.Rules.{IsInstance, IsAnswer}
 use Rattle.vernacular_tree.specs.declared.context.Line.TheVariants.{Cases}
-use Rattle.vernacular_tree.specs.declared.context.Context.{Context}
 use Rattle.vernacular_tree.specs.declared.tree.Mp.{Mp}
-use Rattle.vernacular_tree.specs.declared.tree.Body.{Body}
-use Rattle.vernacular_tree.specs.declared.tree.End as tree
 use Rattle.coherent_form.specs.Tasks.{CitedTask, proof_task}
 use Rattle.proof_text.specs.declared.body.NamedAtom.{NamedAtom}
 use Rattle.proof_text.specs.declared.body.Binding.{Binding}
 use Rattle.proof_text.specs.declared.body.MpText.{MpText}
+use Rattle.proof_text.specs.declared.body.BodyText.{BodyText}
 use Rattle.proof_text.specs.declared.body.EndText.{EndText, As, Efq, Gap, Cs', Row_of-CaseText, end_of-CaseText, more_of-CaseText}
 use Rattle.proof_text.specs.Sizes.{end_size}
 use Rattle.proof_text.specs.Values.{Written}
@@ -26,13 +23,14 @@ use Rattle.proof_checker.specs.declared.refusal.Why.{Why}
 use Rattle.proof_checker.specs.declared.refusal.Why.TheVariants as why
 use Rattle.proof_checker.specs.declared.refusal.StepRefusal.{StepRefusal}
 use Rattle.proof_text.specs.Branches.{Branch, start_branch, after_step, with_case}
-use Rattle.proof_checker.specs.Accepted.{IsAcceptedAs}
-use Rattle.proof_text.specs.StandsFor.{AreCitedOnce, NamesStand, labels_of, TakesStand, StepStands, StepsStand, EndStands, CasesStand}
+use Rattle.proof_text.specs.StandsFor.{AreCitedOnce, NamesStand, labels_of, TakesStand, StepStands}
 use Rattle.proof_checker.specs.Checks.{Nothing, Unless}
-use Rattle.proof_checker.specs.Faults.{binds_in, shown_in, IsRefusedAt, TakesFault, InstanceFault, FormFault, StepFault, AtomsFault, AnswerFault, FalsumFault, CaseShows, CasesDiffer, SplitFault, IsSplit, StepsFault, EndFault, CasesFault, IsFault}
-use Rattle.proof_checker.proofs.Branching.{BodiesProve, Cs_closes}
+use Rattle.proof_checker.specs.Faults.{binds_in, shown_in, IsRefusedAt, TakesFault, InstanceFault, FormFault, StepFault, AtomsFault, AnswerFault, FalsumFault, CaseShows, CasesDiffer, SplitFault, IsSplit, StepsFault, EndFault, CasesFault, FirstFault}
+use Rattle.proof_checker.specs.Opened.{StepsOpen, EndOpens, CasesOpen, BodyOpens, Opens}
+use Rattle.proof_checker.specs.Running.{BodyFault}
+use Rattle.proof_checker.specs.declared.open_node.OpenNode.{OpenNode}
 use Rattle.proof_checker.proofs.Elements.{names_one, names_known, names_long, args_one, args_long, args_labels, args_differ, args_known}
-use Rattle.proof_checker.proofs.OneBody.{cases_one, form_one, after_one}
+use Rattle.proof_checker.proofs.OneList.{cases_one, form_one, after_one}
 use Rattle.proof_checker.proofs.Ordered.{IsOne, IsNone, behind_each, nothing_one, nothing_none, unless_one, unless_none, each_one, each_none}
 
 -- a step has one refusal, where its rule has one reason
@@ -133,25 +131,8 @@ module _ (task : CitedTask) where
   falsum_one branch = unless_one _ _ _ nothing_one
 
   -- a gap has one fault
-  gap_one : IsOne (Unless ⊥ why.GapOpen Nothing)
-  gap_one = unless_one _ _ _ nothing_one
-
-  -- there are as many cases as lists
-  cases_many : {n : _} (cases : Row_of-CaseText n) (bodies : List Body) (lists : List (List Atom)) (branch : Branch)
-      → CasesStand task cases bodies lists branch → length (shown_in cases) ≡ length lists
-  cases_many end_of-CaseText bodies lists branch stand = sym (ap length stand.1)
-  cases_many (more_of-CaseText shown steps end rest) bodies lists branch (body, others, facts, more, bodies_are, lists_are, shows, stands, standing) =
-      let tail : length (shown_in rest) ≡ length more = cases_many rest others more branch standing in
-      let total : length lists ≡ length (facts ∷ more) = ap length lists_are in
-      omega arith
-
-  -- each case shows its list
-  cases_show : {n : _} (cases : Row_of-CaseText n) (bodies : List Body) (lists : List (List Atom)) (branch : Branch)
-      → CasesStand task cases bodies lists branch → AllByRecursion (CaseShows task branch) (zip (shown_in cases) lists)
-  cases_show end_of-CaseText bodies lists branch stand = tt
-  cases_show (more_of-CaseText shown steps end rest) bodies lists branch (body, others, facts, more, bodies_are, lists_are, shows, stands, standing) =
-      subst (λ (xs : List (List Atom)). AllByRecursion (CaseShows task branch) (zip (shown ∷ shown_in rest) xs)) (sym lists_are)
-      (shows, cases_show rest others more branch standing)
+  gap_one : (gaps : Bool) → IsOne (Unless (gaps ≡ true) why.GapOpen Nothing)
+  gap_one gaps = unless_one _ _ _ nothing_one
 
   module _ (once : AreCitedOnce task) where
     -- a step has one fault
@@ -199,107 +180,78 @@ module _ (task : CitedTask) where
         let moved = subst (λ after. StepsFault task texts P (number + 1) after b) (sym (after_one task once branch text x.0 y.0 x.1 y.1)) y.3 in
         steps_fault_one texts P one (number + 1) (after_step branch x.1.form x.0.args text.fresh) a b x.3 moved
 
-    mutual
-      -- an end has one fault
-      end_fault_one : (end : EndText) (number : ℕ) (branch : Branch) (a b : StepRefusal) → EndFault task end number branch a → EndFault task end number branch b → a ≡ b
-      end_fault_one (As disjunct texts) number branch a b x y = refused_one number rule.As (AnswerFault task branch disjunct texts) (answer_one branch disjunct texts) a b x y
-      end_fault_one Efq number branch a b x y = refused_one number rule.Efq (FalsumFault task branch) (falsum_one branch) a b x y
-      end_fault_one (Gap within) number branch a b x y = refused_one number rule.Gap (Unless ⊥ why.GapOpen Nothing) gap_one a b x y
-      end_fault_one (Cs' line _ cases) number branch a b (inl x) (inl y) =
-          refused_one number rule.Cs (SplitFault task branch line (shown_in cases)) (split_one branch line (shown_in cases)) a b x y
-      end_fault_one (Cs' line _ cases) number branch a b (inl x) (inr y) = absurd (split_none branch line (shown_in cases) y.0 y.1 a.why x.why_is)
-      end_fault_one (Cs' line _ cases) number branch a b (inr x) (inl y) = absurd (split_none branch line (shown_in cases) x.0 x.1 b.why y.why_is)
-      end_fault_one (Cs' line _ cases) number branch a b (inr x) (inr y) =
-          let same : y.0 ≡ x.0 = cases_one branch.context.lines line y.0 x.0 y.1.line_is x.1.line_is in
-          cases_fault_one cases x.0 (number + 1) branch a b x.2 (subst (λ lists. CasesFault task cases lists (number + 1) branch b) same y.2)
+    -- steps that are open have no fault, where what is behind them has none
+    steps_none : (texts : List MpText) (P : List OpenNode → Branch → Type 0) (F : ℕ → Branch → StepRefusal → Type 0)
+        → ((nodes : List OpenNode) (number : ℕ) (branch : Branch) (a : StepRefusal) → P nodes branch → F number branch a → ⊥)
+        → (nodes : List OpenNode) (number : ℕ) (branch : Branch) (a : StepRefusal) → StepsOpen task texts P nodes branch → StepsFault task texts F number branch a → ⊥
+    steps_none [] P F none nodes number branch a opens fault = none nodes number branch a opens fault
+    steps_none (text ∷ texts) P F none nodes number branch a (step, rest, is, stands, instance, opens) (inl here) = step_none branch text step stands instance a.why here.why_is
+    steps_none (text ∷ texts) P F none nodes number branch a (step, rest, is, stands, instance, opens) (inr behind) =
+        steps_none texts P F none rest (number + 1) (after_step branch stands.form step.args text.fresh) a opens
+        (subst (λ after. StepsFault task texts F (number + 1) after a) (sym (after_one task once branch text step behind.0 stands behind.1)) behind.3)
 
-      -- cases have one fault
-      cases_fault_one : {n : _} (cases : Row_of-CaseText n) (lists : List (List Atom)) (number : ℕ) (branch : Branch) (a b : StepRefusal)
-          → CasesFault task cases lists number branch a → CasesFault task cases lists number branch b → a ≡ b
-      cases_fault_one end_of-CaseText lists number branch a b x y = absurd x
-      cases_fault_one (more_of-CaseText shown steps end rest) [] number branch a b x y = absurd x
-      cases_fault_one (more_of-CaseText shown steps end rest) (facts ∷ more) number branch a b (inl x) (inl y) =
-          steps_fault_one steps (EndFault task end) (end_fault_one end) number (with_case branch facts) a b x y
-      cases_fault_one (more_of-CaseText shown steps end rest) (facts ∷ more) number branch a b (inl x) (inr y) = absurd (y.0 a x)
-      cases_fault_one (more_of-CaseText shown steps end rest) (facts ∷ more) number branch a b (inr x) (inl y) = absurd (x.0 b y)
-      cases_fault_one (more_of-CaseText shown steps end rest) (facts ∷ more) number branch a b (inr x) (inr y) =
-          cases_fault_one rest more (number + length steps + end_size end) branch a b x.1 y.1
+    module _ (gaps : Bool) where
+      mutual
+        -- an end has one fault
+        end_fault_one : (end : EndText) (number : ℕ) (branch : Branch) (a b : StepRefusal) → EndFault task gaps end number branch a → EndFault task gaps end number branch b → a ≡ b
+        end_fault_one (As disjunct texts) number branch a b x y = refused_one number rule.As (AnswerFault task branch disjunct texts) (answer_one branch disjunct texts) a b x y
+        end_fault_one Efq number branch a b x y = refused_one number rule.Efq (FalsumFault task branch) (falsum_one branch) a b x y
+        end_fault_one (Gap within) number branch a b x y = refused_one number rule.Gap (Unless (gaps ≡ true) why.GapOpen Nothing) (gap_one gaps) a b x y
+        end_fault_one (Cs' line _ cases) number branch a b (inl x) (inl y) =
+            refused_one number rule.Cs (SplitFault task branch line (shown_in cases)) (split_one branch line (shown_in cases)) a b x y
+        end_fault_one (Cs' line _ cases) number branch a b (inl x) (inr y) = absurd (split_none branch line (shown_in cases) y.0 y.1 a.why x.why_is)
+        end_fault_one (Cs' line _ cases) number branch a b (inr x) (inl y) = absurd (split_none branch line (shown_in cases) x.0 x.1 b.why y.why_is)
+        end_fault_one (Cs' line _ cases) number branch a b (inr x) (inr y) =
+            let same : y.0 ≡ x.0 = cases_one branch.context.lines line y.0 x.0 y.1.line_is x.1.line_is in
+            cases_fault_one cases x.0 (number + 1) branch a b x.2 (subst (λ lists. CasesFault task gaps cases lists (number + 1) branch b) same y.2)
 
-    -- a script has one fault
-    pub fault_one : (script : Written) (a b : StepRefusal) → IsFault task script a → IsFault task script b → a ≡ b
-    fault_one script a b (inl x) (inl y) = refused_one 0 rule.Take (TakesFault task script.take) (takes_one script.take) a b x y
-    fault_one script a b (inl x) (inr y) = absurd (takes_none script.take y.0 a.why x.why_is)
-    fault_one script a b (inr x) (inl y) = absurd (takes_none script.take x.0 b.why y.why_is)
-    fault_one script a b (inr x) (inr y) = steps_fault_one script.body.steps (EndFault task script.body.end) (end_fault_one script.body.end)
-        1 (start_branch task script.take) a b x.1 y.1
+        -- cases have one fault
+        cases_fault_one : {n : _} (cases : Row_of-CaseText n) (lists : List (List Atom)) (number : ℕ) (branch : Branch) (a b : StepRefusal)
+            → CasesFault task gaps cases lists number branch a → CasesFault task gaps cases lists number branch b → a ≡ b
+        cases_fault_one end_of-CaseText lists number branch a b x y = absurd x
+        cases_fault_one (more_of-CaseText shown steps end rest) [] number branch a b x y = absurd x
+        cases_fault_one (more_of-CaseText shown steps end rest) (facts ∷ more) number branch a b (inl x) (inl y) =
+            steps_fault_one steps (EndFault task gaps end) (end_fault_one end) number (with_case branch facts) a b x y
+        cases_fault_one (more_of-CaseText shown steps end rest) (facts ∷ more) number branch a b (inl x) (inr y) = absurd (y.0 a x)
+        cases_fault_one (more_of-CaseText shown steps end rest) (facts ∷ more) number branch a b (inr x) (inl y) = absurd (x.0 b y)
+        cases_fault_one (more_of-CaseText shown steps end rest) (facts ∷ more) number branch a b (inr x) (inr y) =
+            cases_fault_one rest more (number + length steps + end_size end) branch a b x.1 y.1
 
-    -- steps that stand and are taken have no fault, where what is behind them has none
-    pub steps_none : (texts : List MpText) (steps : List Mp) (P : Branch → Type 0) (Q : Context → Type 0) (F : ℕ → Branch → StepRefusal → Type 0)
-        → ((number : ℕ) (branch : Branch) (a : StepRefusal) → P branch → Q branch.context → F number branch a → ⊥)
-        → (number : ℕ) (branch : Branch) (a : StepRefusal) → StepsStand task texts steps P branch → StepsThen (proof_task task) steps Q branch.context
-        → StepsFault task texts F number branch a → ⊥
-    steps_none [] [] P Q F none number branch a stand proved fault = none number branch a stand proved fault
-    steps_none [] (step ∷ steps) P Q F none number branch a stand proved fault = absurd stand
-    steps_none (text ∷ texts) [] P Q F none number branch a stand proved fault = absurd stand
-    steps_none (text ∷ texts) (step ∷ steps) P Q F none number branch a (stands, rest) (form, form_is, instance, proved) fault =
-        let same : form ≡ stands.form = value_same (sym form_is ∙ stands.is.form_is) in
-        let taken = subst (λ (f : Form). IsInstance branch.context f step.args) same instance in
-        let later = subst (λ (f : Form). StepsThen (proof_task task) steps Q (after_step branch f step.args text.fresh).context) same proved in
-        elim fault [
-          | inl here ↦ step_none branch text step stands taken a.why here.why_is
-          | inr behind ↦ steps_none texts steps P Q F none (number + 1) (after_step branch stands.form step.args text.fresh) a rest later
-              (subst (λ after. StepsFault task texts F (number + 1) after a) (sym (after_one task once branch text step behind.0 stands behind.1)) behind.3)
-        ]
+      -- a script has one fault
+      pub first_one : (script : Written) (a b : StepRefusal) → FirstFault task gaps script a → FirstFault task gaps script b → a ≡ b
+      first_one script a b (inl x) (inl y) = refused_one 0 rule.Take (TakesFault task script.take) (takes_one script.take) a b x y
+      first_one script a b (inl x) (inr y) = absurd (takes_none script.take y.0 a.why x.why_is)
+      first_one script a b (inr x) (inl y) = absurd (takes_none script.take x.0 b.why y.why_is)
+      first_one script a b (inr x) (inr y) = steps_fault_one script.body.steps (EndFault task gaps script.body.end) (end_fault_one script.body.end)
+          1 (start_branch task script.take) a b x.1 y.1
 
-    mutual
-      -- an end that stands and closes the branch has no fault
-      pub end_none : (end : EndText) (e : tree.End) (number : ℕ) (branch : Branch) (a : StepRefusal) → EndStands task end e branch
-          → Closes (proof_task task) e branch.context → EndFault task end number branch a → ⊥
-      end_none (As disjunct texts) e number branch a stand closes fault =
-          answer_none branch disjunct texts stand.0 stand.2 (subst (λ end. Closes (proof_task task) end branch.context) stand.1 closes) a.why fault.why_is
-      end_none Efq e number branch a stand closes fault =
-          unless_none _ _ _ (subst (λ end. Closes (proof_task task) end branch.context) stand closes) nothing_none a.why fault.why_is
-      end_none (Gap within) e number branch a stand closes fault = absurd stand
-      end_none (Cs' line _ cases) e number branch a (bodies, lists, is, line_is, stand) closes fault =
-          let proved = Cs_closes (proof_task task) line bodies branch.context (subst (λ end. Closes (proof_task task) end branch.context) is closes) in
-          let same : proved.0 ≡ lists = cases_one branch.context.lines line proved.0 lists proved.1 line_is in
-          let prove = subst (λ lists. BodiesProve (proof_task task) bodies lists branch.context) same proved.2 in
-          elim fault [
-            | inl here ↦ split_none branch line (shown_in cases) lists record {
-              line_is = line_is;
-              as_many = cases_many cases bodies lists branch stand;
-              shows = cases_show cases bodies lists branch stand;
-            } a.why here.why_is
-            | inr behind ↦ cases_none cases bodies lists (number + 1) branch a stand prove
-                (subst (λ lists. CasesFault task cases lists (number + 1) branch a) (cases_one branch.context.lines line behind.0 lists behind.1.line_is line_is) behind.2)
-          ]
+      mutual
+        -- an end that is open has no fault
+        end_none : (end : EndText) (nodes : List OpenNode) (number : ℕ) (branch : Branch) (a : StepRefusal) → EndOpens task gaps end nodes branch
+            → EndFault task gaps end number branch a → ⊥
+        end_none (As disjunct texts) nodes number branch a (args, is, stand, answer) fault = answer_none branch disjunct texts args stand answer a.why fault.why_is
+        end_none Efq nodes number branch a opens fault = unless_none _ _ _ opens.1 nothing_none a.why fault.why_is
+        end_none (Gap within) nodes number branch a opens fault = unless_none _ _ _ opens.1 nothing_none a.why fault.why_is
+        end_none (Cs' line _ cases) nodes number branch a (lists, rest, is, split, opens) (inl here) = split_none branch line (shown_in cases) lists split a.why here.why_is
+        end_none (Cs' line _ cases) nodes number branch a (lists, rest, is, split, opens) (inr behind) = cases_none cases lists rest (number + 1) branch a opens
+            (subst (λ lists. CasesFault task gaps cases lists (number + 1) branch a) (cases_one branch.context.lines line behind.0 lists behind.1.line_is split.line_is) behind.2)
 
-      -- cases that stand and are proved have no fault
-      cases_none : {n : _} (cases : Row_of-CaseText n) (bodies : List Body) (lists : List (List Atom)) (number : ℕ) (branch : Branch) (a : StepRefusal)
-          → CasesStand task cases bodies lists branch → BodiesProve (proof_task task) bodies lists branch.context
-          → CasesFault task cases lists number branch a → ⊥
-      cases_none end_of-CaseText bodies lists number branch a stand proved fault = absurd fault
-      cases_none (more_of-CaseText shown steps end rest) bodies [] number branch a stand proved fault = absurd fault
-      cases_none (more_of-CaseText shown steps end rest) bodies (facts ∷ more) number branch a
-          (body, others, first, later, bodies_are, lists_are, shows, stands, standing) proved fault =
-          let prove = subst (λ (bs : List Body). BodiesProve (proof_task task) bs (facts ∷ more) branch.context) bodies_are proved in
-          let both : prove.0 ∷ prove.1 ≡ facts ∷ more = sym prove.2 in
-          let one : prove.0 ≡ facts = cc in
-          let two : prove.1 ≡ more = cc in
-          let three : first ≡ facts = cc in
-          let four : later ≡ more = cc in
-          let stand = subst (λ d. StepsStand task steps body.steps (EndStands task end body.end) (with_case branch d)) three stands in
-          let taken = subst (λ d. StepsThen (proof_task task) body.steps (Closes (proof_task task) body.end) (with_case branch d).context) one prove.3 in
-          elim fault [
-            | inl here ↦ steps_none steps body.steps (EndStands task end body.end) (Closes (proof_task task) body.end) (EndFault task end)
-                (λ number branch a. end_none end body.end number branch a) number (with_case branch facts) a stand taken here
-            | inr behind ↦ cases_none rest others more (number + length steps + end_size end) branch a
-                (subst (λ ds. CasesStand task rest others ds branch) four standing) (subst (λ ds. BodiesProve (proof_task task) others ds branch.context) two prove.4) behind.1
-          ]
+        -- cases that are open have no fault
+        cases_none : {n : _} (cases : Row_of-CaseText n) (lists : List (List Atom)) (nodes : List OpenNode) (number : ℕ) (branch : Branch) (a : StepRefusal)
+            → CasesOpen task gaps cases lists nodes branch → CasesFault task gaps cases lists number branch a → ⊥
+        cases_none end_of-CaseText lists nodes number branch a opens fault = fault
+        cases_none (more_of-CaseText shown steps end rest) [] nodes number branch a opens fault = fault
+        cases_none (more_of-CaseText shown steps end rest) (facts ∷ more) nodes number branch a (first, others, is, opens, later) (inl here) =
+            steps_none steps (EndOpens task gaps end) (EndFault task gaps end) (end_none end) first number (with_case branch facts) a opens here
+        cases_none (more_of-CaseText shown steps end rest) (facts ∷ more) nodes number branch a (first, others, is, opens, later) (inr behind) =
+            cases_none rest more others (number + length steps + end_size end) branch a later behind.1
 
-    -- a script that is accepted has no fault
-    pub accepted_none : (script : Written) (body : Body) (a : StepRefusal) → IsAcceptedAs task script body → IsFault task script a → ⊥
-    accepted_none script body a accepted (inl x) = takes_none script.take accepted.stands.takes a.why x.why_is
-    accepted_none script body a accepted (inr x) = steps_none script.body.steps body.steps (EndStands task script.body.end body.end)
-        (Closes (proof_task task) body.end) (EndFault task script.body.end) (λ number branch a. end_none script.body.end body.end number branch a)
-        1 (start_branch task script.take) a accepted.stands.body_is accepted.proves x.1
+      -- a body of a script that is open has no fault
+      pub body_none : (text : BodyText) (nodes : List OpenNode) (number : ℕ) (branch : Branch) (a : StepRefusal) → BodyOpens task gaps text nodes branch
+          → BodyFault task gaps text number branch a → ⊥
+      body_none text nodes number branch a = steps_none text.steps (EndOpens task gaps text.end) (EndFault task gaps text.end) (end_none text.end) nodes number branch a
+
+      -- a script that is open has no fault
+      pub opens_none : (script : Written) (nodes : List OpenNode) (a : StepRefusal) → Opens task gaps script nodes → FirstFault task gaps script a → ⊥
+      opens_none script nodes a opens (inl x) = takes_none script.take opens.takes a.why x.why_is
+      opens_none script nodes a opens (inr x) = body_none script.body nodes 1 (start_branch task script.take) a opens.body_is x.1

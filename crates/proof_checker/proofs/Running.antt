@@ -1,21 +1,22 @@
 -- Steps that were taken one after another, and what is behind them.
-use Rattle.std.proofs.Common.{◌≡◌, ℕ, zero, suc, ◌+◌, ◌<◌, ◌≤◌, inl, inr, List, [], ◌∷◌, ◌++◌, length, take, get_or, slice_get, Some, refl, ap, sym, ◌∙◌, subst, arith, append_assoc, append-nil, length-append}
+use Rattle.std.proofs.Common.{◌≡◌, ℕ, Bool, zero, suc, ◌+◌, ◌<◌, ◌≤◌, inl, inr, List, [], ◌∷◌, ◌++◌, length, take, map, get_or, slice_get, Some, refl, ap, sym, ◌∙◌, subst, arith, append_assoc, append-nil, length-append}
+use Rattle.std.proofs.lemmas.List.{map-append, length-map}
 use Rattle.text_core.specs.Names.{Text}
 use Rattle.text_core.proofs.Laws.{take_next}
-use Rattle.vernacular_tree.specs.Rules.{IsInstance, StepsThen, Closes}
+use Rattle.vernacular_tree.specs.Rules.{IsInstance, StepsThen}
 use Rattle.vernacular_tree.specs.declared.context.Context.{Context}
 use Rattle.vernacular_tree.specs.declared.tree.Mp.{Mp}
-use Rattle.vernacular_tree.specs.declared.tree.Body.{Body}
-use Rattle.vernacular_tree.specs.declared.tree.End.{End}
 use Rattle.coherent_form.specs.Tasks.{CitedTask, proof_task}
 use Rattle.fact_store.specs.Facts as store
 use Rattle.proof_text.specs.declared.body.MpText.{MpText}
 use Rattle.proof_text.specs.declared.body.BodyText.{BodyText}
-use Rattle.proof_text.specs.StandsFor.{AreCitedOnce, StepStands, StepsStand, EndStands}
+use Rattle.proof_text.specs.StandsFor.{StepStands, StepsStand}
 use Rattle.proof_text.specs.Branches.{Branch, after_step}
 use Rattle.proof_checker.specs.Faults.{IsRefusedAt, StepFault, StepsFault, EndFault}
-use Rattle.proof_checker.specs.Kept.{Kept, Grows, HasLine, branch_of, point_of, cut}
-use Rattle.proof_checker.specs.Running.{HaltsBy, RefusesBy, refusal_of, IsStep, Runs, BodyIs, BodyFault, EndIs}
+use Rattle.proof_checker.specs.Kept.{Kept, IsKept, Grows, HasLine, branch_of, point_of, cut}
+use Rattle.proof_checker.specs.Opened.{StepsOpen, EndOpens, BodyOpens}
+use Rattle.proof_checker.specs.Running.{HaltsBy, RefusesBy, refusal_of, IsStep, step_node, Runs, StepsRun, BodyFault, Adds}
+use Rattle.proof_checker.specs.declared.open_node.OpenNode.{OpenNode}
 use Rattle.proof_checker.specs.declared.fact.HeldLine.{HeldLine}
 use Rattle.proof_checker.specs.declared.halt.Halt as Halt
 use Rattle.proof_checker.specs.declared.halt.Halt.TheVariants as halt
@@ -26,7 +27,6 @@ use Rattle.proof_checker.specs.declared.refusal.Rule.TheVariants as rule
 use Rattle.proof_checker.specs.declared.refusal.StepRefusal.{StepRefusal}
 use Rattle.proof_checker.specs.declared.refusal.Why.{Why}
 use Rattle.proof_checker.proofs.Named.{item_read}
-use Rattle.proof_checker.proofs.OneFault.{steps_none, end_none}
 
 -- a step that stopped for one of these reasons is refused for one of them
 pub refused_by : (P : Why → Type 0) (step : ℕ) (by : Rule.Rule) (stop : Halt.Halt) (refusal : CheckRefusal.CheckRefusal) → refusal ≡ refusal_of step by stop
@@ -135,7 +135,7 @@ module _ (task : CitedTask) where
   split_at (y ∷ ys) (suc i) x at = let tail = split_at ys i x at in (tail.0, ap (λ zs. y ∷ zs) tail.1)
 
   -- a front has so many items
-  take_long : {X : Type 0} (xs : List X) (i : ℕ) → i ≤ length xs → length (take i xs) ≡ i
+  pub take_long : {X : Type 0} (xs : List X) (i : ℕ) → i ≤ length xs → length (take i xs) ≡ i
   take_long xs zero within = none xs
     where
       none : {X : Type 0} (xs : List X) → length (take 0 xs) ≡ 0
@@ -167,17 +167,17 @@ module _ (task : CitedTask) where
   -- a step is refused in a loop
   pub run_fault : (text : BodyText) (i : ℕ) (step : MpText) (steps : List Mp) (number at : ℕ) (branch middle : Branch) (refusal : StepRefusal)
       → i < length text.steps → step ≡ get_or text.steps i step → at ≡ number + i → Runs task (take i text.steps) steps branch middle
-      → IsRefusedAt at rule.Mp (StepFault task middle step) refusal → BodyFault task text number branch refusal
-  run_fault text i step steps number at branch middle refusal below is at_is run here =
+      → IsRefusedAt at rule.Mp (StepFault task middle step) refusal → (gaps : Bool) → BodyFault task gaps text number branch refusal
+  run_fault text i step steps number at branch middle refusal below is at_is run here gaps =
       let split = split_at text.steps i step (item_read text.steps i step below is) in
       let long : length (take i text.steps) ≡ i = take_long text.steps i (omega arith) in
       let moved : at ≡ number + length (take i text.steps) = at_is ∙ ap (λ n. number + n) (sym long) in
-      subst (λ (ts : List MpText). StepsFault task ts (EndFault task text.end) number branch refusal) (sym split.1)
-      (run_refused (take i text.steps) steps step split.0 (EndFault task text.end) number branch middle refusal run
+      subst (λ (ts : List MpText). StepsFault task ts (EndFault task gaps text.end) number branch refusal) (sym split.1)
+      (run_refused (take i text.steps) steps step split.0 (EndFault task gaps text.end) number branch middle refusal run
       (subst (λ (n : ℕ). IsRefusedAt n rule.Mp (StepFault task middle step) refusal) moved here))
 
   -- what holds behind steps
-  run_stand : (texts : List MpText) (steps : List Mp) (P : Branch → Type 0) (branch after : Branch) → Runs task texts steps branch after → P after
+  pub run_stand : (texts : List MpText) (steps : List Mp) (P : Branch → Type 0) (branch after : Branch) → Runs task texts steps branch after → P after
       → StepsStand task texts steps P branch
   run_stand [] [] P branch after run holds = subst P (sym run) holds
   run_stand [] (s ∷ steps) P branch after run holds = absurd run
@@ -185,7 +185,7 @@ module _ (task : CitedTask) where
   run_stand (t ∷ texts) (s ∷ steps) P branch after run holds =
       (run.0, run_stand texts steps P (after_step branch run.0.form s.args t.fresh) after run.2 holds)
 
-  run_then : (texts : List MpText) (steps : List Mp) (Q : Context → Type 0) (branch after : Branch) → Runs task texts steps branch after → Q after.context
+  pub run_then : (texts : List MpText) (steps : List Mp) (Q : Context → Type 0) (branch after : Branch) → Runs task texts steps branch after → Q after.context
       → StepsThen (proof_task task) steps Q branch.context
   run_then [] [] Q branch after run holds = subst (λ (b : Branch). Q b.context) (sym run) holds
   run_then [] (s ∷ steps) Q branch after run holds = absurd run
@@ -193,13 +193,49 @@ module _ (task : CitedTask) where
   run_then (t ∷ texts) (s ∷ steps) Q branch after run holds =
       (run.0.form, run.0.is.form_is, run.1, run_then texts steps Q (after_step branch run.0.form s.args t.fresh) after run.2 holds)
 
-  -- steps with an end behind them
-  pub run_body : (text : BodyText) (steps : List Mp) (end : End) (branch after : Branch) → Runs task text.steps steps branch after → EndIs task text.end after end
-      → BodyIs task text branch (record { steps = steps; end = end })
-  run_body text steps end branch after run is = record {
-    stands = run_stand text.steps steps (EndStands task text.end end) branch after run is.stands;
-    proves = run_then text.steps steps (Closes (proof_task task) end) branch after run is.closes;
+  -- steps are open, where what is behind them is
+  run_opens : (texts : List MpText) (steps : List Mp) (P : List OpenNode → Branch → Type 0) (nodes : List OpenNode) (branch after : Branch) → Runs task texts steps branch after
+      → P nodes after → StepsOpen task texts P (map step_node steps ++ nodes) branch
+  run_opens [] [] P nodes branch after run holds = subst (P nodes) (sym run) holds
+  run_opens [] (s ∷ steps) P nodes branch after run holds = absurd run
+  run_opens (t ∷ texts) [] P nodes branch after run holds = absurd run
+  run_opens (t ∷ texts) (s ∷ steps) P nodes branch after run holds =
+      (s, map step_node steps ++ nodes, refl, run.0, run.1, run_opens texts steps P nodes (after_step branch run.0.form s.args t.fresh) after run.2 holds)
+
+  -- no steps add no nodes
+  pub steps_added_none : (branch : Kept) (nodes : List OpenNode) → IsKept task branch → StepsRun task [] branch branch nodes nodes
+  steps_added_none branch nodes kept =
+      record { steps = []; run = refl; nodes_are = sym (append-nil nodes); kept = kept; grows = grows_none branch }
+
+  -- a step adds its node
+  pub steps_added_next : (texts : List MpText) (i : ℕ) (text : MpText) (step : Mp) (old middle new : Kept) (before between after : List OpenNode)
+      → i < length texts → text ≡ get_or texts i text → StepsRun task (take i texts) old middle before between → IsStep task text step middle new
+      → after ≡ between ++ step_node step ∷ [] → StepsRun task (take (i + 1) texts) old new before after
+  steps_added_next texts i text step old middle new before between after below is run here grown = record {
+    steps = run.steps ++ step ∷ [];
+    run = run_next texts i text run.steps (run.steps ++ step ∷ []) step old middle new below is run.run here refl;
+    nodes_are = grown ∙ ap (λ (ns : List OpenNode). ns ++ step_node step ∷ []) run.nodes_are ∙ append_assoc before (map step_node run.steps) (step_node step ∷ [])
+        ∙ ap (λ (ns : List OpenNode). before ++ ns) (sym (map-append step_node run.steps (step ∷ [])));
+    kept = here.kept;
+    grows = grows_more old middle new run.grows here.grows;
   }
+
+  -- steps are as many as their texts
+  run_long : (texts : List MpText) (steps : List Mp) (branch after : Branch) → Runs task texts steps branch after → length steps ≡ length texts
+  run_long [] [] branch after run = refl
+  run_long [] (s ∷ steps) branch after run = absurd run
+  run_long (t ∷ texts) [] branch after run = absurd run
+  run_long (t ∷ texts) (s ∷ steps) branch after run =
+      let rest : length steps ≡ length texts = run_long texts steps (after_step branch run.0.form s.args t.fresh) after run.2 in omega arith
+
+  -- so many nodes were added
+  pub steps_added_long : (texts : List MpText) (old new : Kept) (before after : List OpenNode) → StepsRun task texts old new before after
+      → length after ≡ length before + length texts
+  steps_added_long texts old new before after run =
+      let joined = ap length run.nodes_are ∙ length-append before (map step_node run.steps) in
+      let mapped = length-map run.steps step_node in
+      let steps = run_long texts run.steps (branch_of old) (branch_of new) run.run in
+      omega (arith, joined, mapped, steps)
 
   -- a fault behind steps
   run_behind : (texts : List MpText) (steps : List Mp) (P : ℕ → Branch → StepRefusal → Type 0) (number : ℕ) (branch after : Branch) (refusal : StepRefusal)
@@ -220,13 +256,19 @@ module _ (task : CitedTask) where
       )
 
   -- a fault of the end of a body
-  pub run_end_fault : (text : BodyText) (steps : List Mp) (number behind : ℕ) (branch after : Branch) (refusal : StepRefusal) → Runs task text.steps steps branch after
-      → behind ≡ number + length text.steps → EndFault task text.end behind after refusal → BodyFault task text number branch refusal
-  run_end_fault text steps number behind branch after refusal run is told =
-      run_behind text.steps steps (EndFault task text.end) number branch after refusal run (subst (λ (n : ℕ). EndFault task text.end n after refusal) is told)
+  pub run_end_fault : (gaps : Bool) (text : BodyText) (old new : Kept) (before after : List OpenNode) (refusal : StepRefusal) → StepsRun task text.steps old new before after
+      → EndFault task gaps text.end (length after + 1) (branch_of new) refusal → BodyFault task gaps text (length before + 1) (branch_of old) refusal
+  run_end_fault gaps text old new before after refusal run told =
+      let long = steps_added_long text.steps old new before after run in
+      let is : length after + 1 ≡ length before + 1 + length text.steps = omega (arith, long) in
+      run_behind text.steps run.steps (EndFault task gaps text.end) (length before + 1) (branch_of old) (branch_of new) refusal run.run
+      (subst (λ (n : ℕ). EndFault task gaps text.end n (branch_of new) refusal) is told)
 
-  -- a body that stands and is a proof has no fault
-  pub body_none : AreCitedOnce task → (text : BodyText) (number : ℕ) (branch : Branch) (body : Body) (refusal : StepRefusal) → BodyIs task text branch body
-      → BodyFault task text number branch refusal → ⊥
-  body_none once text number branch body refusal is fault = steps_none task once text.steps body.steps (EndStands task text.end body.end) (Closes (proof_task task) body.end)
-      (EndFault task text.end) (λ n b a. end_none task once text.end body.end n b a) number branch refusal is.stands is.proves fault
+  -- a body adds the nodes of its steps and those of its end
+  pub body_added : (gaps : Bool) (text : BodyText) (old new : Kept) (before between after : List OpenNode) → StepsRun task text.steps old new before between
+      → Adds (λ more. EndOpens task gaps text.end more (branch_of new)) between after → Adds (λ more. BodyOpens task gaps text more (branch_of old)) before after
+  body_added gaps text old new before between after run end = record {
+    more = map step_node run.steps ++ end.more;
+    are = end.are ∙ ap (λ (ns : List OpenNode). ns ++ end.more) run.nodes_are ∙ append_assoc before (map step_node run.steps) end.more;
+    hold = run_opens text.steps run.steps (EndOpens task gaps text.end) end.more (branch_of old) (branch_of new) run.run end.hold;
+  }

@@ -1,22 +1,28 @@
 -- The body that a script stands for is as large as the script, and nested as deep.
-use Rattle.std.proofs.Common.{◌≡◌, ℕ, ◌+◌, max, List, [], ◌∷◌, length, refl, ap, ◌∙◌, sum_by, arith}
+use Rattle.std.proofs.Common.{◌≡◌, ℕ, ◌+◌, max, Bool, List, [], ◌∷◌, length, refl, ap, ◌∙◌, sum_by, arith, length-append}
 use Rattle.std.proofs.lemmas.List.Sums.{sum_by-cons}
 use Rattle.logic_core.specs.declared.form.Atom.{Atom}
 use Rattle.vernacular_tree.specs.Sizes.{size, end_size, end_nesting, greatest_nesting, nesting}
 use Rattle.vernacular_tree.specs.declared.tree.Mp.{Mp}
 use Rattle.vernacular_tree.specs.declared.tree.Body.{Body}
 use Rattle.vernacular_tree.specs.declared.tree.End as tree
+use Rattle.vernacular_tree.specs.declared.tree.Node.TheVariants as node
 use Rattle.vernacular_tree.specs.declared.tree.End.{end_of-Body, more_of-Body}
 use Rattle.vernacular_tree.specs.declared.tree.End.TheBlock.{shape-the_row-Body-0}
-use Rattle.vernacular_tree.proofs.Rows.{row_of, Cs_opens, Cs_size}
+use Rattle.vernacular_tree.proofs.Laws.{row_of, Cs_opens, Cs_size}
 use Rattle.coherent_form.specs.Tasks.{CitedTask}
 use Rattle.proof_text.specs.declared.body.MpText.{MpText}
+use Rattle.proof_text.specs.declared.body.BodyText.{BodyText}
 use Rattle.proof_text.specs.declared.body.EndText.{EndText, As, Efq, Gap, Cs', Row_of-CaseText, end_of-CaseText, more_of-CaseText}
 use Rattle.proof_text.specs.Sizes as written
 use Rattle.proof_text.specs.Values.{Written}
 use Rattle.proof_text.specs.Branches.{Branch, start_branch, after_step, with_case}
 use Rattle.proof_checker.specs.Accepted.{IsAcceptedAs}
 use Rattle.proof_text.specs.StandsFor.{StepsStand, EndStands, CasesStand}
+use Rattle.proof_checker.specs.Opened.{StepsOpen, EndOpens, CasesOpen, BodyOpens}
+use Rattle.proof_checker.specs.Running.{step_node, Adds}
+use Rattle.proof_checker.specs.declared.open_node.OpenNode.{OpenNode}
+use Rattle.proof_checker.specs.declared.open_node.OpenNode.TheVariants as open_node
 
 -- how deep splits are nested in bodies
 abbrev pub deepest : List Body → ℕ
@@ -86,3 +92,46 @@ module _ (task : CitedTask) where
       let long : length body.steps ≡ length script.body.steps = both.0 in
       let ends : end_size body.end ≡ written.end_size script.body.end = both.1.size_is in
       (omega arith, both.1.nesting_is)
+
+  -- steps are open as a node for each, before the others
+  open_long : (texts : List MpText) (P : List OpenNode → Branch → Type 0) (k : ℕ) → ((nodes : List OpenNode) (branch : Branch) → P nodes branch → length nodes ≡ k)
+      → (nodes : List OpenNode) (branch : Branch) → StepsOpen task texts P nodes branch → length nodes ≡ length texts + k
+  open_long [] P k go nodes branch opens = let e : length nodes ≡ k = go nodes branch opens in omega arith
+  open_long (text ∷ texts) P k go nodes branch (step, rest, is, stands, instance, opens) =
+      let tail : length rest ≡ length texts + k = open_long texts P k go rest (after_step branch stands.form step.args text.fresh) opens in
+      let long : length nodes ≡ length (step_node step ∷ rest) = ap length is in
+      omega (arith, tail, long)
+
+  module _ (gaps : Bool) where
+    mutual
+      -- an end is open as many nodes as it is large
+      end_open_long : (end : EndText) (nodes : List OpenNode) (branch : Branch) → EndOpens task gaps end nodes branch → length nodes ≡ written.end_size end
+      end_open_long (As disjunct texts) nodes branch opens = ap length opens.1
+      end_open_long Efq nodes branch opens = ap length opens.0
+      end_open_long (Gap within) nodes branch opens = ap length opens.0
+      end_open_long (Cs' line _ cases) nodes branch (lists, rest, is, split, opens) =
+          let tail : length rest ≡ written.case_sizes cases = cases_open_long cases lists rest branch opens in
+          let long : length nodes ≡ length (open_node.Rule (node.Cs line (length lists)) ∷ rest) = ap length is in
+          omega (arith, tail, long)
+
+      -- cases are open as many nodes as they are large
+      cases_open_long : {n : _} (cases : Row_of-CaseText n) (lists : List (List Atom)) (nodes : List OpenNode) (branch : Branch)
+          → CasesOpen task gaps cases lists nodes branch → length nodes ≡ written.case_sizes cases
+      cases_open_long end_of-CaseText lists nodes branch opens = ap length opens
+      cases_open_long (more_of-CaseText shown steps end rest) [] nodes branch opens = absurd opens
+      cases_open_long (more_of-CaseText shown steps end rest) (facts ∷ more) nodes branch (first, others, is, opens, later) =
+          let head : length first ≡ length steps + written.end_size end =
+          open_long steps (EndOpens task gaps end) (written.end_size end) (end_open_long end) first (with_case branch facts) opens in
+          let tail : length others ≡ written.case_sizes rest = cases_open_long rest more others branch later in
+          let joined : length nodes ≡ length first + length others = ap length is ∙ length-append first others in
+          omega (arith, head, tail, joined)
+
+    -- a body of a script is open as many nodes as it is large
+    pub body_open_long : (text : BodyText) (nodes : List OpenNode) (branch : Branch) → BodyOpens task gaps text nodes branch → length nodes ≡ written.size text
+    body_open_long text nodes branch = open_long text.steps (EndOpens task gaps text.end) (written.end_size text.end) (end_open_long text.end) nodes branch
+
+    -- so many nodes were added
+    pub body_added_long : (text : BodyText) (branch : Branch) (before after : List OpenNode) → Adds (λ more. BodyOpens task gaps text more branch) before after
+        → length after ≡ length before + written.size text
+    body_added_long text branch before after added =
+        ap length added.are ∙ length-append before added.more ∙ ap (λ (k : ℕ). length before + k) (body_open_long text added.more branch added.hold)

@@ -1,6 +1,6 @@
 -- Where a script is refused: at its first step with a check that fails, and for the first such
 -- check. The header is step 0; the others are numbered from 1, each before those that it leads to.
-use Rattle.std.specs.Prelude.{ℕ, ◌+◌, ◌-◌, ◌<◌, ◌≤◌, ◌≡◌, ◌⊎◌, List, [], ◌∷◌, ◌++◌, map, length, slice_get, Option, Some, zip}
+use Rattle.std.specs.Prelude.{ℕ, ◌+◌, ◌-◌, ◌<◌, ◌≤◌, ◌≡◌, ◌⊎◌, Bool, true, false, List, [], ◌∷◌, ◌++◌, map, length, slice_get, Option, Some, zip}
 use Rattle.std.specs.List.{AllByRecursion}
 use Rattle.text_core.specs.Names.{Text}
 use Rattle.text_core.specs.Lists.{SomeOf, IsAmong}
@@ -158,18 +158,20 @@ module _ (task : CitedTask) where
       × StepsFault texts P (number + 1)
       (after_step branch stands.form step.args text.fresh) refusal)
 
+-- gaps tells whether a gap may stand
+module _ (task : CitedTask) (gaps : Bool) where
   abbrev mutual
     -- the first fault of an end: it is at the end, or in a case of a split
     pub EndFault : EndText → ℕ → Branch → StepRefusal → Type 0
     EndFault (As disjunct texts) number branch refusal =
-        IsRefusedAt number rule.As (AnswerFault branch disjunct texts) refusal
+        IsRefusedAt number rule.As (AnswerFault task branch disjunct texts) refusal
     EndFault Efq number branch refusal =
-        IsRefusedAt number rule.Efq (FalsumFault branch) refusal
+        IsRefusedAt number rule.Efq (FalsumFault task branch) refusal
     EndFault (Gap within) number branch refusal =
-        IsRefusedAt number rule.Gap (Unless ⊥ why.GapOpen Nothing) refusal
+        IsRefusedAt number rule.Gap (Unless (gaps ≡ true) why.GapOpen Nothing) refusal
     EndFault (Cs' line _ cases) number branch refusal =
-        IsRefusedAt number rule.Cs (SplitFault branch line (shown_in cases)) refusal
-        ⊎ ((lists : List (List Atom)) × IsSplit branch line (shown_in cases) lists
+        IsRefusedAt number rule.Cs (SplitFault task branch line (shown_in cases)) refusal
+        ⊎ ((lists : List (List Atom)) × IsSplit task branch line (shown_in cases) lists
         × CasesFault cases lists (number + 1) branch refusal)
 
     -- the first fault of cases: it is in the first case, or there is none in it, and the fault is
@@ -179,18 +181,35 @@ module _ (task : CitedTask) where
     CasesFault end_of-CaseText lists number branch refusal = ⊥
     CasesFault (more_of-CaseText shown steps end rest) [] number branch refusal = ⊥
     CasesFault (more_of-CaseText shown steps end rest) (facts ∷ more) number branch refusal =
-        StepsFault steps (EndFault end) number (with_case branch facts) refusal
+        StepsFault task steps (EndFault end) number (with_case branch facts) refusal
         ⊎ (((other : StepRefusal)
-        → StepsFault steps (EndFault end) number (with_case branch facts) other → ⊥)
+        → StepsFault task steps (EndFault end) number (with_case branch facts) other → ⊥)
         × CasesFault rest more (number + length steps + end_size end) branch refusal)
 
   -- the first fault of a script
-  abbrev pub IsFault : Written → StepRefusal → Type 0
-  IsFault script refusal = IsRefusedAt 0 rule.Take (TakesFault script.take) refusal
-      ⊎ (TakesStand task script.take × StepsFault script.body.steps (EndFault script.body.end)
+  abbrev pub FirstFault : Written → StepRefusal → Type 0
+  FirstFault script refusal = IsRefusedAt 0 rule.Take (TakesFault task script.take) refusal
+      ⊎ (TakesStand task script.take
+      × StepsFault task script.body.steps (EndFault script.body.end)
       1 (start_branch task script.take) refusal)
+
+-- the first fault of a script, in which no gap may stand
+abbrev pub IsFault : CitedTask → Written → StepRefusal → Type 0
+IsFault task = FirstFault task false
+
+-- the first fault of a script whose gaps may stand
+abbrev pub IsOpenFault : CitedTask → Written → StepRefusal → Type 0
+IsOpenFault task = FirstFault task true
+
+-- a refusal tells such a fault
+abbrev pub Tells : (StepRefusal → Type 0) → CheckRefusal.CheckRefusal → Type 0
+Tells Fault (check.Step refusal) = Fault refusal
+Tells Fault check.Memory = ⊥
 
 -- a refusal of a script tells its first fault
 abbrev pub IsRefusalOf : CitedTask → Written → CheckRefusal.CheckRefusal → Type 0
-IsRefusalOf task script (check.Step refusal) = IsFault task script refusal
-IsRefusalOf task script check.Memory = ⊥
+IsRefusalOf task script = Tells (IsFault task script)
+
+-- a refusal of a script whose gaps may stand
+abbrev pub IsOpenRefusalOf : CitedTask → Written → CheckRefusal.CheckRefusal → Type 0
+IsOpenRefusalOf task script = Tells (IsOpenFault task script)

@@ -1,17 +1,16 @@
 -- What private functions of the checker answer.
-use Rattle.std.specs.Prelude.{ℕ, ◌+◌, ◌≡◌, ◌⊎◌, List, [], ◌∷◌, ◌++◌, slice_get, Some, length}
+use Rattle.std.specs.Prelude.{ℕ, ◌+◌, ◌≡◌, ◌⊎◌, Bool, List, [], ◌∷◌, ◌++◌, map, slice_get, Some, length}
 use Rattle.std.specs.List.{sum_by}
 use Rattle.text_core.specs.Names.{Text}
 use Rattle.logic_core.specs.declared.form.Atom.{Atom}
 use Rattle.logic_core.specs.declared.form.Form.{Form}
-use Rattle.vernacular_tree.specs.Rules.{IsInstance, Closes, IsProof}
+use Rattle.vernacular_tree.specs.Preorders.{mp_node}
+use Rattle.vernacular_tree.specs.Rules.{IsInstance}
 use Rattle.vernacular_tree.specs.declared.tree.Mp.{Mp}
-use Rattle.vernacular_tree.specs.declared.tree.Body.{Body}
-use Rattle.vernacular_tree.specs.declared.tree.End.{End}
-use Rattle.coherent_form.specs.Tasks.{CitedTask, proof_task}
+use Rattle.vernacular_tree.specs.declared.tree.Node.{Node}
+use Rattle.coherent_form.specs.Tasks.{CitedTask}
 use Rattle.proof_text.specs.declared.body.MpText.{MpText}
 use Rattle.proof_text.specs.declared.body.CaseText.{CaseText}
-use Rattle.proof_text.specs.declared.body.EndText.{EndText}
 use Rattle.proof_text.specs.declared.body.BodyText.{BodyText}
 use Rattle.proof_text.specs.Sizes.{size}
 use Rattle.proof_checker.specs.declared.halt.Halt as Halt
@@ -21,10 +20,13 @@ use Rattle.proof_checker.specs.declared.refusal.CheckRefusal.TheVariants as chec
 use Rattle.proof_checker.specs.declared.refusal.StepRefusal.{StepRefusal}
 use Rattle.proof_checker.specs.declared.refusal.Rule.{Rule}
 use Rattle.proof_checker.specs.declared.refusal.Why.{Why}
-use Rattle.proof_text.specs.StandsFor.{Shows, StepStands, StepsStand, EndStands}
+use Rattle.proof_text.specs.StandsFor.{Shows, StepStands}
 use Rattle.proof_text.specs.Branches.{Branch, AreNew, shown_line, given_line, after_step, with_case}
 use Rattle.proof_checker.specs.Faults.{StepsFault, EndFault}
 use Rattle.proof_checker.specs.Kept.{Kept, IsKept, Grows, branch_of}
+use Rattle.proof_checker.specs.Opened.{BodyOpens}
+use Rattle.proof_checker.specs.declared.open_node.OpenNode.{OpenNode}
+use Rattle.proof_checker.specs.declared.open_node.OpenNode.TheVariants as open_node
 
 -- it stopped for one of these reasons, or for want of memory
 abbrev pub HaltsBy : (Why → Type 0) → Halt.Halt → Type 0
@@ -69,6 +71,10 @@ refusal_of step rule (halt.Fault why) =
     check.Step (record { step = step; rule = rule; why = why })
 refusal_of step rule halt.Memory = check.Memory
 
+-- a step as a node
+abbrev pub step_node : Mp → OpenNode
+step_node step = open_node.Rule (mp_node step)
+
 module _ (task : CitedTask) where
   -- steps stand and are taken in order, and lead from a branch to another one
   abbrev pub Runs : List MpText → List Mp → Branch → Branch → Type 0
@@ -79,24 +85,29 @@ module _ (task : CitedTask) where
       × IsInstance branch.context stands.form step.args
       × Runs texts steps (after_step branch stands.form step.args text.fresh) after
 
-  -- a body of a script stands for a body, and this is a proof from the branch
-  pub record BodyIs (text : BodyText) (branch : Branch) (body : Body) : Type 0 where
-    pub stands : StepsStand task text.steps body.steps (EndStands task text.end body.end) branch
-    pub proves : IsProof (proof_task task) branch.context body
+  -- steps stand and are taken, and are told as nodes
+  pub record StepsRun (texts : List MpText) (old new : Kept) (before after : List OpenNode)
+      : Type 0 where
+    pub steps : List Mp
+    pub run : Runs texts steps (branch_of old) (branch_of new)
+    pub nodes_are : after ≡ before ++ map step_node steps
+    pub kept : IsKept task new
+    pub grows : Grows old new
 
+module _ (task : CitedTask) (gaps : Bool) where
   -- the first fault of a body of a script
   abbrev pub BodyFault : BodyText → ℕ → Branch → StepRefusal → Type 0
   BodyFault text number branch refusal =
-      StepsFault task text.steps (EndFault task text.end) number branch refusal
+      StepsFault task text.steps (EndFault task gaps text.end) number branch refusal
 
-  -- each case stands for a body that is a proof with its list of facts
-  abbrev pub CasesAre : List CaseText → List (List Atom) → Branch → List Body → Type 0
-  CasesAre [] lists branch [] = lists ≡ []
-  CasesAre [] lists branch (body ∷ bodies) = ⊥
-  CasesAre (case ∷ cases) lists branch [] = ⊥
-  CasesAre (case ∷ cases) [] branch (body ∷ bodies) = ⊥
-  CasesAre (case ∷ cases) (facts ∷ lists) branch (body ∷ bodies) =
-      BodyIs case.body (with_case branch facts) body × CasesAre cases lists branch bodies
+  -- the nodes of each case in order
+  abbrev pub CasesAre : List CaseText → List (List Atom) → List OpenNode → Branch → Type 0
+  CasesAre [] lists nodes branch = nodes ≡ []
+  CasesAre (case ∷ cases) [] nodes branch = ⊥
+  CasesAre (case ∷ cases) (facts ∷ lists) nodes branch =
+      (first : List OpenNode) × (others : List OpenNode) × (nodes ≡ first ++ others)
+      × BodyOpens task gaps case.body first (with_case branch facts)
+      × CasesAre cases lists others branch
 
   -- the first fault of cases
   abbrev pub CasesFail : List CaseText → List (List Atom) → ℕ → Branch → StepRefusal → Type 0
@@ -107,10 +118,17 @@ module _ (task : CitedTask) where
       ⊎ (((other : StepRefusal) → BodyFault case.body number (with_case branch facts) other → ⊥)
       × CasesFail cases lists (number + size case.body) branch refusal)
 
-  -- an end stands for an end, and this closes the branch
-  pub record EndIs (text : EndText) (branch : Branch) (end : End) : Type 0 where
-    pub stands : EndStands task text end branch
-    pub closes : Closes (proof_task task) end branch.context
+-- nodes were added behind others, and P holds of them
+pub record Adds (P : List OpenNode → Type 0) (old new : List OpenNode) : Type 0 where
+  pub more : List OpenNode
+  pub are : new ≡ old ++ more
+  pub hold : P more
+
+-- the rule applications among nodes
+abbrev pub rules_in : List OpenNode → List Node
+rules_in [] = []
+rules_in (open_node.Rule rule ∷ nodes) = rule ∷ rules_in nodes
+rules_in (open_node.Gap within ∷ nodes) = rules_in nodes
 
 -- the rule applications of cases
 abbrev pub sizes_of : List CaseText → ℕ

@@ -1,4 +1,4 @@
-ghost use Rattle.std.specs.Prelude.{◌≡◌, ◌+◌, ◌<◌, ◌≤◌, ◌^◌, List as Lst, Some, slice_get, map, length, IfOk, IfErr, OnOk};
+ghost use Rattle.std.specs.Prelude.{◌≡◌, ◌+◌, ◌<◌, ◌≤◌, ◌^◌, ◌∷◌, Bool, false, List as Lst, [], Some, slice_get, map, length, IfOk, IfErr, OnOk};
 ghost use Rattle.logic_core.specs.declared.form.Atom.{Atom as AtomValue};
 ghost use Rattle.proof_text.specs.declared.body.CaseText.{CaseText as Case};
 ghost use Rattle.proof_text.specs.declared.body.EndText as ends;
@@ -6,11 +6,14 @@ ghost use Rattle.proof_text.specs.Sizes.{size, end_size};
 ghost use Rattle.coherent_form.specs.Tasks.{CitedTask};
 ghost use Rattle.proof_checker.specs.Faults.{EndFault, IsSplit};
 ghost use Rattle.proof_checker.specs.Kept as kept;
-ghost use Rattle.proof_checker.specs.Running.{RefusesBy, Runs, BodyIs, BodyFault, CasesAre, CasesFail, EndIs, sizes_of};
+ghost use Rattle.proof_checker.specs.Opened.{EndOpens, BodyOpens};
+ghost use Rattle.proof_checker.specs.Running.{RefusesBy, StepsRun, BodyFault, CasesAre, CasesFail, Adds, sizes_of};
+ghost use Rattle.proof_checker.specs.declared.open_node.OpenNode.TheVariants as open_node;
 
 use crate::fact::{HeldLine, copy_facts};
 use crate::finish::{check_answer, check_split};
 use crate::halt::Halt;
+use crate::open_node::OpenNode;
 use crate::refusal::{CheckRefusal, Rule, Why, refused};
 use crate::step::check_step;
 use crate::trail::Trail;
@@ -18,35 +21,41 @@ use coherent_form::Task;
 use proof_text::{BodyText, CaseText, EndText};
 use std::alloc::Global;
 use text_core::{List, Memory, Name};
-use vernacular_tree::{Body, End, Mp};
+use vernacular_tree::Node;
 
-// Takes the steps of a body.
+// The number of the step that is told next.
+fn next_number(nodes: &List<OpenNode>) -> u32
+    requires { length nodes.now + 1 < 2 ^ 32 }
+    ensures { result ≡ length nodes.now + 1 }
+{
+    nodes.len() as u32 + 1
+}
+
+// Takes the steps of a body, and tells each as a node.
 fn check_steps(
     alloc: Global,
     task: &Task,
     trail: &mut Trail,
+    nodes: &mut List<OpenNode>,
     text: &BodyText,
-    number: u32,
-) -> Result<List<Mp>, CheckRefusal>
+) -> Result<(), CheckRefusal>
     requires kept { kept.IsKept task.now trail.old }
-    requires few { number + length text.now.steps < 2 ^ 32 }
-    ensures run { IfOk result (λ steps. Runs task.now text.now.steps steps
-        (kept.branch_of trail.old) (kept.branch_of trail.new)) }
-    ensures kept { OnOk result (kept.IsKept task.now trail.new) }
-    ensures grows { OnOk result (kept.Grows trail.old trail.new) }
-    ensures err { IfErr result (RefusesBy
-        (BodyFault task.now text.now number (kept.branch_of trail.old))) }
+    requires few { length nodes.old + length text.now.steps + 1 < 2 ^ 32 }
+    ensures ok { OnOk result (StepsRun
+        task.now text.now.steps trail.old trail.new nodes.old nodes.new) }
+    ensures err { IfErr result (λ refusal. (gaps : Bool) → RefusesBy (BodyFault
+        task.now gaps text.now (length nodes.old + 1) (kept.branch_of trail.old)) refusal) }
 {
-    let mut steps = List::new(alloc);
-    let mut at = number;
     for step in text.steps.as_slice() {
         match check_step(alloc, task, trail, step) {
-            Ok(step) => steps.push(step)?,
-            Err(halt) => return Err(refused(at, Rule::Mp, halt)),
+            Ok(step) => nodes.push(OpenNode::Rule(Node::Mp {
+                form: step.form,
+                args: step.args,
+            }))?,
+            Err(halt) => return Err(refused(next_number(nodes), Rule::Mp, halt)),
         }
-        at += 1;
     }
-    Ok(steps)
+    Ok(())
 }
 
 // Goes on with a case of a line.
@@ -64,46 +73,44 @@ fn enter_case(alloc: Global, trail: &mut Trail, line: u32, case: usize) -> Resul
     trail.push_line(HeldLine::Facts(facts))
 }
 
-// The bodies for which the cases of a split stand, and the number of the step behind them.
+// Tells the nodes of the cases of a split.
 #[cycle(check)]
 fn check_cases(
     alloc: Global,
     task: &Task,
+    gaps: bool,
     trail: &mut Trail,
+    nodes: &mut List<OpenNode>,
     line: u32,
     cases: &[CaseText],
-    number: u32,
-) -> Result<(List<Body>, u32), CheckRefusal>
+) -> Result<(), CheckRefusal>
     requires kept { kept.IsKept task.now trail.old }
-    requires few { number + sizes_of cases.now < 2 ^ 32 }
-    ensures ok { IfOk result (λ r. (lists : Lst (Lst AtomValue))
+    requires few { length nodes.old + sizes_of cases.now + 1 < 2 ^ 32 }
+    ensures ok { OnOk result ((lists : Lst (Lst AtomValue))
         → IsSplit task.now (kept.branch_of trail.old) line
         (map (λ (case : Case). case.shown) cases.now) lists
-        → CasesAre task.now cases.now lists (kept.branch_of trail.old) r.0) }
-    ensures next { IfOk result (λ r. r.1 ≡ number + sizes_of cases.now) }
+        → Adds (λ more. CasesAre task.now gaps cases.now lists more (kept.branch_of trail.old))
+        nodes.old nodes.new) }
     ensures same { OnOk result (trail.new ≡ trail.old) }
     ensures err { IfErr result (λ refusal. (lists : Lst (Lst AtomValue))
         → IsSplit task.now (kept.branch_of trail.old) line
         (map (λ (case : Case). case.shown) cases.now) lists
-        → RefusesBy (CasesFail task.now cases.now lists number (kept.branch_of trail.old)) refusal) }
+        → RefusesBy (CasesFail task.now gaps cases.now lists (length nodes.old + 1)
+        (kept.branch_of trail.old)) refusal) }
 {
     // No two forms are cited in the same way.
     task.citations_differ();
     let point = trail.point();
-    let mut bodies = List::new(alloc);
-    let mut next = number;
     for at in 0..cases.len() {
         let case = &cases[at];
         enter_case(alloc, trail, line, at)?;
-        let (body, after) = check_body(alloc, task, trail, &case.body, next)?;
+        check_body(alloc, task, gaps, trail, nodes, &case.body)?;
         trail.back(point);
-        bodies.push(body)?;
-        next = after;
     }
-    Ok((bodies, next))
+    Ok(())
 }
 
-// An end by a disjunct of the goal.
+// The node of an end by a disjunct of the goal.
 fn end_by_answer(
     alloc: Global,
     task: &Task,
@@ -111,111 +118,132 @@ fn end_by_answer(
     disjunct: u32,
     texts: &[Name],
     number: u32,
-) -> Result<End, CheckRefusal>
+) -> Result<OpenNode, CheckRefusal>
     requires kept { kept.IsKept task.now trail.now }
-    ensures ok { IfOk result (EndIs
-        task.now (ends.As disjunct texts.now) (kept.branch_of trail.now)) }
-    ensures err { IfErr result (RefusesBy (EndFault
-        task.now (ends.As disjunct texts.now) number (kept.branch_of trail.now))) }
+    ensures ok { IfOk result (λ node. EndOpens task.now false
+        (ends.As disjunct texts.now) (node ∷ []) (kept.branch_of trail.now)) }
+    ensures err { IfErr result (RefusesBy (EndFault task.now false
+        (ends.As disjunct texts.now) number (kept.branch_of trail.now))) }
 {
     match check_answer(alloc, task, trail, disjunct, texts) {
-        Ok(args) => Ok(End::As { disjunct, args }),
+        Ok(args) => Ok(OpenNode::Rule(Node::As { disjunct, args })),
         Err(halt) => Err(refused(number, Rule::As, halt)),
     }
 }
 
-// An end by falsehood.
-fn end_by_falsum(task: &Task, trail: &Trail, number: u32) -> Result<End, CheckRefusal>
+// The node of an end by falsehood.
+fn end_by_falsum(task: &Task, trail: &Trail, number: u32) -> Result<OpenNode, CheckRefusal>
     requires kept { kept.IsKept task.now trail.now }
-    ensures ok { IfOk result (EndIs task.now ends.Efq (kept.branch_of trail.now)) }
-    ensures err { IfErr result (RefusesBy
-        (EndFault task.now ends.Efq number (kept.branch_of trail.now))) }
+    ensures ok { IfOk result (λ node. EndOpens task.now false
+        ends.Efq (node ∷ []) (kept.branch_of trail.now)) }
+    ensures err { IfErr result (RefusesBy (EndFault task.now false
+        ends.Efq number (kept.branch_of trail.now))) }
 {
     if trail.has_falsum() {
-        Ok(End::Efq)
+        Ok(OpenNode::Rule(Node::Efq))
     } else {
         Err(refused(number, Rule::Efq, Halt::Fault(Why::NoFalsum)))
     }
 }
 
-// An end by a split, and the number of the step behind it.
+// The node of a gap, where one may stand.
+fn end_by_gap(
+    task: &Task,
+    gaps: bool,
+    trail: &Trail,
+    within: u32,
+    number: u32,
+) -> Result<OpenNode, CheckRefusal>
+    ensures ok { IfOk result (λ node. EndOpens task.now gaps
+        (ends.Gap within) (node ∷ []) (kept.branch_of trail.now)) }
+    ensures err { IfErr result (RefusesBy (EndFault task.now gaps
+        (ends.Gap within) number (kept.branch_of trail.now))) }
+{
+    if gaps {
+        Ok(OpenNode::Gap { within })
+    } else {
+        Err(refused(number, Rule::Gap, Halt::Fault(Why::GapOpen)))
+    }
+}
+
+// Tells the nodes of an end by a split.
 #[cycle(check)]
 fn end_by_split(
     alloc: Global,
     task: &Task,
+    gaps: bool,
     trail: &mut Trail,
+    nodes: &mut List<OpenNode>,
     line: u32,
     cases: &[CaseText],
-    number: u32,
-) -> Result<(End, u32), CheckRefusal>
+) -> Result<(), CheckRefusal>
     requires kept { kept.IsKept task.now trail.old }
-    requires few { number + 1 + sizes_of cases.now < 2 ^ 32 }
-    ensures ok { IfOk result (λ r. EndIs
-        task.now (ends.Cs line cases.now) (kept.branch_of trail.old) r.0) }
-    ensures next { IfOk result (λ r. r.1 ≡ number + 1 + sizes_of cases.now) }
+    requires few { length nodes.old + sizes_of cases.now + 2 < 2 ^ 32 }
+    ensures ok { OnOk result (Adds (λ more. EndOpens task.now gaps
+        (ends.Cs line cases.now) more (kept.branch_of trail.old)) nodes.old nodes.new) }
     ensures same { OnOk result (trail.new ≡ trail.old) }
-    ensures err { IfErr result (RefusesBy (EndFault
-        task.now (ends.Cs line cases.now) number (kept.branch_of trail.old))) }
+    ensures err { IfErr result (RefusesBy (EndFault task.now gaps
+        (ends.Cs line cases.now) (length nodes.old + 1) (kept.branch_of trail.old))) }
 {
     if let Err(halt) = check_split(task, trail, line, cases) {
-        return Err(refused(number, Rule::Cs, halt));
+        return Err(refused(next_number(nodes), Rule::Cs, halt));
     }
-    let (branches, next) = check_cases(alloc, task, trail, line, cases, number + 1)?;
-    Ok((End::Cs { line, branches }, next))
+    let branches = cases.len() as u32;
+    nodes.push(OpenNode::Rule(Node::Cs { line, branches }))?;
+    check_cases(alloc, task, gaps, trail, nodes, line, cases)
 }
 
-// The end for which an end of a script stands, and the number of the step behind it.
+// Tells the nodes of an end.
 #[cycle(check)]
 fn check_end(
     alloc: Global,
     task: &Task,
+    gaps: bool,
     trail: &mut Trail,
+    nodes: &mut List<OpenNode>,
     end: &EndText,
-    number: u32,
-) -> Result<(End, u32), CheckRefusal>
+) -> Result<(), CheckRefusal>
     requires kept { kept.IsKept task.now trail.old }
-    requires few { number + end_size end.now < 2 ^ 32 }
-    ensures ok { IfOk result (λ r. EndIs task.now end.now (kept.branch_of trail.old) r.0) }
-    ensures next { IfOk result (λ r. r.1 ≡ number + end_size end.now) }
+    requires few { length nodes.old + end_size end.now + 1 < 2 ^ 32 }
+    ensures ok { OnOk result (Adds (λ more. EndOpens task.now gaps end.now more
+        (kept.branch_of trail.old)) nodes.old nodes.new) }
     ensures same { OnOk result (trail.new ≡ trail.old) }
     ensures err { IfErr result (RefusesBy
-        (EndFault task.now end.now number (kept.branch_of trail.old))) }
+        (EndFault task.now gaps end.now (length nodes.old + 1) (kept.branch_of trail.old))) }
 {
-    match end {
+    let number = next_number(nodes);
+    let node = match end {
         EndText::As { disjunct, args } => {
-            let end = end_by_answer(alloc, task, trail, *disjunct, args.as_slice(), number)?;
-            Ok((end, number + 1))
+            end_by_answer(alloc, task, trail, *disjunct, args.as_slice(), number)?
         }
-        EndText::Efq => {
-            let end = end_by_falsum(task, trail, number)?;
-            Ok((end, number + 1))
-        }
-        EndText::Gap { .. } => Err(refused(number, Rule::Gap, Halt::Fault(Why::GapOpen))),
+        EndText::Efq => end_by_falsum(task, trail, number)?,
+        EndText::Gap { within } => end_by_gap(task, gaps, trail, *within, number)?,
         EndText::Cs { line, cases } => {
-            end_by_split(alloc, task, trail, *line, cases.as_slice(), number)
+            return end_by_split(alloc, task, gaps, trail, nodes, *line, cases.as_slice());
         }
-    }
+    };
+    nodes.push(node)?;
+    Ok(())
 }
 
-/// The body for which a body of a script stands, and the number of the step behind it.
+/// Tells the nodes of a body of a script, where a gap may stand if `gaps` is true.
 #[cycle(check)]
 pub(crate) fn check_body(
     alloc: Global,
     task: &Task,
+    gaps: bool,
     trail: &mut Trail,
+    nodes: &mut List<OpenNode>,
     text: &BodyText,
-    number: u32,
-) -> Result<(Body, u32), CheckRefusal>
+) -> Result<(), CheckRefusal>
     requires kept { kept.IsKept task.now trail.old }
-    requires few { number + size text.now < 2 ^ 32 }
-    ensures ok { IfOk result (λ r. BodyIs task.now text.now (kept.branch_of trail.old) r.0) }
-    ensures next { IfOk result (λ r. r.1 ≡ number + size text.now) }
+    requires few { length nodes.old + size text.now + 1 < 2 ^ 32 }
+    ensures ok { OnOk result (Adds (λ more. BodyOpens task.now gaps text.now more
+        (kept.branch_of trail.old)) nodes.old nodes.new) }
     ensures grows { OnOk result (kept.Grows trail.old trail.new) }
-    ensures err { IfErr result (RefusesBy
-        (BodyFault task.now text.now number (kept.branch_of trail.old))) }
+    ensures err { IfErr result (RefusesBy (BodyFault
+        task.now gaps text.now (length nodes.old + 1) (kept.branch_of trail.old))) }
 {
-    let steps = check_steps(alloc, task, trail, text, number)?;
-    let behind = number + text.steps.len() as u32;
-    let (end, next) = check_end(alloc, task, trail, &text.end, behind)?;
-    Ok((Body { steps, end }, next))
+    check_steps(alloc, task, trail, nodes, text)?;
+    check_end(alloc, task, gaps, trail, nodes, &text.end)
 }

@@ -1,15 +1,19 @@
 //! Laws over all tasks in which no two forms are cited in the same way.
 
-ghost use Rattle.std.specs.Prelude.{◌≡◌};
+ghost use Rattle.std.specs.Prelude.{◌≡◌, List, map};
 ghost use Rattle.coherent_form.specs.Tasks.{CitedTask};
 ghost use Rattle.proof_text.specs.Values.{Written};
 ghost use Rattle.proof_text.specs.Sizes.{size as script_size, nesting as script_nesting};
+ghost use Rattle.vernacular_tree.specs.Preorders.{preorder};
 ghost use Rattle.vernacular_tree.specs.Sizes.{size, nesting};
 ghost use Rattle.vernacular_tree.specs.declared.tree.Body.{Body as Tree};
 ghost use Rattle.proof_checker.specs.declared.refusal.StepRefusal.{StepRefusal as Refusal};
 ghost use Rattle.proof_checker.specs.Accepted.{IsAcceptedAs};
 ghost use Rattle.proof_text.specs.StandsFor.{AreCitedOnce};
-ghost use Rattle.proof_checker.specs.Faults.{IsFault};
+ghost use Rattle.proof_checker.specs.Faults.{IsFault, IsOpenFault};
+ghost use Rattle.proof_checker.specs.Opened.{IsOpenAs};
+ghost use Rattle.proof_checker.specs.declared.open_node.OpenNode.{OpenNode as GapOrRule};
+ghost use Rattle.proof_checker.specs.declared.open_node.OpenNode.TheVariants as open_node;
 
 /// A script is accepted as one body at most.
 pub fn scripts_have_one_body()
@@ -36,4 +40,29 @@ pub fn accepted_bodies_are_as_large()
         → IsAcceptedAs task script body → size body ≡ script_size script.body }
     ensures nesting { (task : CitedTask) (script : Written) (body : Tree)
         → IsAcceptedAs task script body → nesting body ≡ script_nesting script.body }
+{}
+
+/// Where its gaps may stand, a script has one list of nodes at most, one first fault at most, and
+/// never both.
+pub fn nodes_or_one_open_fault()
+    ensures nodes { (task : CitedTask) (script : Written) (a b : List GapOrRule)
+        → AreCitedOnce task
+        → IsOpenAs task script a → IsOpenAs task script b → a ≡ b }
+    ensures fault { (task : CitedTask) (script : Written) (a b : Refusal) → AreCitedOnce task
+        → IsOpenFault task script a → IsOpenFault task script b → a ≡ b }
+    ensures never_both { (task : CitedTask) (script : Written) (nodes : List GapOrRule)
+        (refusal : Refusal)
+        → AreCitedOnce task
+        → IsOpenAs task script nodes → IsOpenFault task script refusal → ⊥ }
+{}
+
+/// A script is accepted as a body exactly where it is open as the rule applications of this body,
+/// without a gap.
+pub fn accepted_scripts_are_open()
+    ensures is_open { (task : CitedTask) (script : Written) (body : Tree)
+        → IsAcceptedAs task script body
+        → IsOpenAs task script (map open_node.Rule (preorder body)) }
+    ensures accepted { (task : CitedTask) (script : Written) (body : Tree)
+        → IsOpenAs task script (map open_node.Rule (preorder body))
+        → IsAcceptedAs task script body }
 {}

@@ -5,9 +5,13 @@
 #[cfg(test)]
 mod forms;
 #[cfg(test)]
+mod gaps;
+#[cfg(test)]
 mod inclusions;
 #[cfg(test)]
 mod items;
+#[cfg(test)]
+mod made;
 #[cfg(test)]
 mod printing;
 #[cfg(test)]

@@ -1,3 +1,4 @@
+use problem_suite::examples::{GEOMETRY_CANONICAL, TRUTH_PROOF};
 use proof_text::{ScriptRefusal, read_script, write_script};
 use std::alloc::Global;
 use std::test::Fail;
@@ -171,7 +172,8 @@ const REFUSALS: &[(&[u8], u32, u32)] = &[
 
 // Canonical texts, which are read and written as they are.
 const CANONICAL: &[&[u8]] = &[
-    b"vernacular 1.\ntake [].\nas 1 [].\n",
+    TRUTH_PROOF,
+    GEOMETRY_CANONICAL,
     b"vernacular 1.\ntake [a,b].\nefq.\n",
     b"vernacular 1.\ntake [].\nmp a1 [] new [] gives p(c) | q(c).\ncs 1.\ncase p(c).\n  \
 mp a2 [c] new [] gives r(c).\n  as 1 [].\ncase q(c).\n  efq.\nend.\n",

@@ -2,6 +2,9 @@ use coherent_form::{Citation, Task, TaskRefusal, TaskWhy};
 use include_flat::flatten;
 use io_core::MemoryFiles;
 use logic_core::{Bytes, Memory, Problem};
+use problem_suite::examples::{
+    COMPLEMENT_PROBLEM, EQUALITY_PROBLEM, SAME_NAMES_PROBLEM, SHADOWED_PROBLEM,
+};
 use proof_text::read_script;
 use std::alloc::Global;
 use std::test::Fail;
@@ -29,7 +32,7 @@ const TASKS: &[(&[u8], &[Wanted])] = &[
     ),
     // a predicate that is negated in the conjecture
     (
-        b"fof(a1,axiom,! [X] : (p(X) => q(X))). fof(g,conjecture,~ p(c) | q(c)).",
+        COMPLEMENT_PROBLEM,
         &[
             Wanted::Counts(3, 3, 1, 1, 0, 2),
             Wanted::Found(b"a1", Some(0)),
@@ -44,7 +47,7 @@ const TASKS: &[(&[u8], &[Wanted])] = &[
     ),
     // equality
     (
-        b"fof(e,axiom,a = b). fof(f,axiom,p(a)). fof(g,conjecture,p(b)).",
+        EQUALITY_PROBLEM,
         &[
             Wanted::Counts(6, 2, 2, 2, 0, 1),
             Wanted::Found(b"f", Some(1)),
@@ -76,7 +79,7 @@ const TASKS: &[(&[u8], &[Wanted])] = &[
     ),
     // two formulas of one name
     (
-        b"fof(a,axiom,p(c)). fof(a,axiom,q(c)). fof(g,conjecture,q(c)).",
+        SAME_NAMES_PROBLEM,
         &[
             Wanted::Counts(2, 3, 1, 1, 0, 1),
             Wanted::Found(b"a:0", None),
@@ -114,7 +117,7 @@ const TASKS: &[(&[u8], &[Wanted])] = &[
     ),
     // a witness behind a constant
     (
-        b"fof(a1,axiom,! [X] : (p(X) => ? [X] : q(X))). fof(a2,axiom,p(c)). fof(g,conjecture,? [Z] : q(Z)).",
+        SHADOWED_PROBLEM,
         &[
             Wanted::Counts(2, 3, 1, 1, 0, 1),
             Wanted::Printed(0, b"c"),
@@ -162,7 +165,7 @@ fn numbered(refusal: &TaskRefusal) -> (u32, u32, u32) {
 }
 
 /// The problem that a text has, and none where it is refused.
-fn problem_of(alloc: Global, text: &[u8]) -> Option<Problem> {
+pub(crate) fn problem_of(alloc: Global, text: &[u8]) -> Option<Problem> {
     let mut files = MemoryFiles::new(alloc);
     files.insert(b"x.p", text).ok()?;
     flatten(alloc, &mut files, b"x.p").ok()

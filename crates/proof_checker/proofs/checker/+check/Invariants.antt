@@ -1,19 +1,19 @@
-use Rattle.std.proofs.Common.{◌≡◌, ◌+◌, ◌*◌, List, map, take}
+use Rattle.std.proofs.Common.{◌≡◌, ◌+◌, ◌*◌, List, length, map, take}
 use Rattle.logic_core.specs.declared.form.Atom.{Atom}
 use Rattle.proof_text.specs.declared.body.CaseText.{CaseText}
 use Rattle.proof_text.specs.Sizes.{size, end_size}
 use Rattle.proof_checker.specs.Faults.{IsSplit}
 use Rattle.proof_checker.specs.Kept.{branch_of}
-use Rattle.proof_checker.specs.Running.{CasesAre, sizes_of}
+use Rattle.proof_checker.specs.Running.{CasesAre, Adds, sizes_of}
 use Rattle.proof_checker.proofs.checker.+check.Given as goal
 
--- the first cases stand, and the branch is as before
+-- the first cases have their nodes, and the branch is as before
 abbrev pub invariant-check_cases-loop-at : goal.invariant-check_cases-loop-at
 invariant-check_cases-loop-at l = record {
   same : l.trail ≡ l.fn.trail;
-  are : (lists : List (List Atom)) → IsSplit l.task (branch_of l.fn.trail) l.line (map (λ (case : CaseText). case.shown) l.cases) lists
-      → CasesAre l.task (take l.at l.cases) (take l.at lists) (branch_of l.fn.trail) l.bodies;
-  next : l.next ≡ l.number + sizes_of (take l.at l.cases);
+  added : (lists : List (List Atom)) → IsSplit l.task (branch_of l.fn.trail) l.line (map (λ (case : CaseText). case.shown) l.cases) lists
+      → Adds (λ more. CasesAre l.task l.gaps (take l.at l.cases) lists more (branch_of l.fn.trail)) l.fn.nodes l.nodes;
+  many : length l.nodes ≡ length l.fn.nodes + sizes_of (take l.at l.cases);
 }
 
 abbrev pub decreases-check_body : goal.decreases-check_body

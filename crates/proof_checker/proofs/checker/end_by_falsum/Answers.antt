@@ -10,10 +10,8 @@ use Rattle.proof_checker.proofs.Running.{refused_by}
 use Rattle.proof_checker.proofs.checker.end_by_falsum.Goals as goal
 
 pub returns-then-has_falsum-clause-ok : goal.returns-then-has_falsum-clause-ok
-returns-then-has_falsum-clause-ok c = record {
-  stands = refl;
-  closes = falsum_seen c.args.trail.now.lines (c.requires.kept.falsum.0 (sym c.has_falsum.ensures ∙ c.if-has_falsum.true));
-}
+returns-then-has_falsum-clause-ok c =
+    (refl, falsum_seen c.args.trail.now.lines (c.requires.kept.falsum.0 (sym c.has_falsum.ensures ∙ c.if-has_falsum.true)))
 
 pub returns-else-has_falsum-clause-err : goal.returns-else-has_falsum-clause-err
 returns-else-has_falsum-clause-err c =

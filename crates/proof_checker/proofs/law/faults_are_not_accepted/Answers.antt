@@ -1,4 +1,4 @@
-use Rattle.proof_checker.proofs.OneFault.{accepted_none}
+use Rattle.proof_checker.proofs.Opening.{accepted_none}
 use Rattle.proof_checker.proofs.law.faults_are_not_accepted.Goals as goal
 
 pub returns : goal.returns

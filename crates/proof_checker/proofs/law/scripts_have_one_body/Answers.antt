@@ -1,4 +1,4 @@
-use Rattle.proof_checker.proofs.OneBody.{accepted_one}
+use Rattle.proof_checker.proofs.Opening.{accepted_one}
 use Rattle.proof_checker.proofs.law.scripts_have_one_body.Goals as goal
 
 pub returns : goal.returns

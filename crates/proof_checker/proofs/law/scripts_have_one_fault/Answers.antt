@@ -1,4 +1,4 @@
-use Rattle.proof_checker.proofs.OneFault.{fault_one}
+use Rattle.proof_checker.proofs.Started.{fault_one}
 use Rattle.proof_checker.proofs.law.scripts_have_one_fault.Goals as goal
 
 pub returns : goal.returns

@@ -1,0 +1,8 @@
+use Rattle.std.proofs.Common.{◌≡◌, ◌++◌, ◌+◌, ◌-◌}
+use Rattle.std.specs.List.{flat_map, range_with_len}
+use Rattle.problem_suite.specs.MadeTexts.{application_text}
+use Rattle.problem_suite.proofs.made.put_applications.Given as goal
+
+-- what is there, and what follows
+abbrev pub invariant-loop-number : goal.invariant-loop-number
+invariant-loop-number l = l.out ++ flat_map application_text (range_with_len l.number (l.count + 1 - l.number)) ≡ l.fn.out ++ flat_map application_text (range_with_len 1 l.count)

@@ -1,0 +1,15 @@
+pub mod Fewest
+pub mod Bounded
+pub mod Laid
+pub mod Disjuncts
+pub mod Started
+pub mod Rooms
+pub mod Told
+pub mod Branching
+pub mod Dead
+pub mod Noting
+pub mod Ready
+pub mod Cases
+pub mod Trying
+pub mod Closing
+pub mod Splitting

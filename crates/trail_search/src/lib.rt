@@ -1,0 +1,17 @@
+//! A search for a proof with the fewest rule applications from a context, exactly and in place.
+#![tactic(auto)]
+
+mod answers;
+mod close;
+mod entry;
+mod find;
+mod found;
+mod law;
+mod scene;
+mod search;
+mod searcher;
+mod start;
+
+pub use law::least_is_one;
+pub use searcher::Searcher;
+pub use start::start_context;
