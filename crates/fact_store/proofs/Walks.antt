@@ -1,16 +1,16 @@
 -- A walk through the chain of a fact's bucket meets every number that the fact may have.
-use Rattle.std.proofs.Common.{◌≡◌, ℕ, suc, zero, ◌<◌, ◌≤◌, ◌==◌, Bool, true, false, ◌||◌, List, [], ◌∷◌, map, length, take, get_or, Option, Some, None, refl, sym, ap, subst, ◌∙◌, arith, nat_eq}
+use Rattle.std.proofs.Common.{◌≡◌, ℕ, suc, zero, ◌<◌, ◌≤◌, ◌==◌, Bool, true, false, ◌||◌, List, [], ◌∷◌, map, length, take, get_or, slice_get, Option, Some, None, is_some, refl, sym, ap, subst, ◌∙◌, arith, nat_eq}
 use Rattle.std.specs.List.{list_any}
 use Rattle.std.specs.Cmp.Lexicographic.{pointwise, bytes_decides}
 use Rattle.std.proofs.lemmas.Bool.Decides.{nat_tests}
 use Rattle.std.proofs.lemmas.List.{length-map, length-take-le, get_or-map, get_or-take, take-map, take-take}
-use Rattle.std.proofs.lemmas.List.Folds.{list_any_at}
-use Rattle.text_core.proofs.Laws.{and_both}
+use Rattle.std.proofs.lemmas.Option.{slice_get-get_or}
+use Rattle.text_core.proofs.Laws.{and_both, and_true}
 use Rattle.fact_store.specs.declared.entry.Entry.{Entry}
 use Rattle.fact_store.specs.Entries.{fact_in, facts_in, bucket_of}
 use Rattle.fact_store.proofs.Chained.{latest-below, latest-is}
 use Rattle.fact_store.specs.Chains.{or_first, latest}
-use Rattle.fact_store.specs.Facts.{Fact, is_fact, stands}
+use Rattle.fact_store.specs.Facts.{Fact, is_fact, stands, IsNumberOf}
 
 -- the number after one, or 0 where there is none
 abbrev pub after : Option ℕ → ℕ
@@ -137,6 +137,31 @@ module _ (keys : List ℕ) (width : ℕ) (args : List ℕ) (entries : List Entry
               (ap (latest chain_key) (sym (take-map (bucket_of width) number (facts_in args entries)) ∙ ap (take number) (sym is)) ∙ sym next_is);
         }
 
-      -- a walk that meets the fact has found it
-      pub walk_found : is_fact signed sought (fact_in args (get_or entries number d)) ≡ true → stands signed sought (facts_in args entries) ≡ true
-      walk_found same = list_any_at (is_fact signed sought) (facts_in args entries) number (fact_in args d) (omega (arith, length-map entries (fact_in args), below)) (ap (is_fact signed sought) fact_here ∙ same)
+      -- a walk that meets the fact has found its number
+      pub walk_found : is_fact signed sought (fact_in args (get_or entries number d)) ≡ true → IsNumberOf signed sought (facts_in args entries) (Some number)
+      walk_found same =
+          let inside : number < length (facts_in args entries) = omega (arith, length-map entries (fact_in args), below) in
+          slice_get-get_or (facts_in args entries) number (fact_in args d) inside
+          ∙ ap Some (fact_is signed sought _ (ap (is_fact signed sought) fact_here ∙ same))
+
+-- a fact is the one with its symbol and its elements
+itself : (signed : ℕ) (args : List ℕ) → is_fact signed args (record { signed = signed; args = args }) ≡ true
+itself signed args = and_true (signed == signed) (pointwise nat_eq args args) (grind (arith, nat_tests)) ((bytes_decides args args).1 refl)
+
+-- a test that passes, behind another one
+or_last : (a b : Bool) → b ≡ true → (a || b) ≡ true
+or_last true b e = refl
+or_last false b e = e
+
+-- a fact stands in the list where it has a number
+has_number : (signed : ℕ) (args : List ℕ) (facts : List Fact) (number : ℕ) → slice_get facts number ≡ Some (record { signed = signed; args = args }) → stands signed args facts ≡ true
+has_number signed args [] number e = absurd cc
+has_number signed args (f ∷ facts) zero e =
+    let same : f ≡ record { signed = signed; args = args } = cc in
+    ap (λ g. is_fact signed args g || stands signed args facts) same ∙ ap (λ b. b || stands signed args facts) (itself signed args)
+has_number signed args (f ∷ facts) (suc number) e = or_last (is_fact signed args f) _ (has_number signed args facts number e)
+
+-- whether there is a number tells whether the fact stands in the list
+pub number_stands : (signed : ℕ) (args : List ℕ) (facts : List Fact) (number : Option ℕ) → IsNumberOf signed args facts number → is_some number ≡ stands signed args facts
+number_stands signed args facts None e = sym e
+number_stands signed args facts (Some number) e = sym (has_number signed args facts number e)

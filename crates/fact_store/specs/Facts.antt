@@ -1,5 +1,5 @@
 -- What a store of facts is seen as.
-use Rattle.std.specs.Prelude.{ℕ, Bool, ◌&&◌, ◌==◌, nat_eq, List, map, take, Option, slice_get, option_and_then}
+use Rattle.std.specs.Prelude.{◌≡◌, ℕ, Bool, false, ◌&&◌, ◌==◌, nat_eq, List, map, take, Option, None, Some, slice_get, option_and_then}
 use Rattle.std.specs.List.{list_any, IsDistinct}
 use Rattle.std.specs.Cmp.Lexicographic.{pointwise}
 use Rattle.fact_store.specs.Chains.{latest}
@@ -25,6 +25,12 @@ is_fact signed args fact = signed == fact.signed && pointwise nat_eq args fact.a
 -- whether the fact with this symbol and these elements stands in the list
 abbrev pub stands : ℕ → List ℕ → List Fact → Bool
 stands signed args facts = list_any (is_fact signed args) facts
+
+-- the number of the fact with this symbol and these elements; none where it does not stand there
+abbrev pub IsNumberOf : ℕ → List ℕ → List Fact → Option ℕ → Type 0
+IsNumberOf signed args facts None = stands signed args facts ≡ false
+IsNumberOf signed args facts (Some number) =
+    slice_get facts number ≡ Some (record { signed = signed; args = args })
 
 -- no fact stands twice
 abbrev pub AreDistinctFacts : List Fact → Type 0

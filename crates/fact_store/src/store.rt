@@ -1,11 +1,11 @@
 ghost use Rattle.std.specs.Prelude.{◌≡◌, ◌+◌, ◌-◌, ◌<◌, ◌≤◌, [], ◌∷◌, ◌++◌, length, take, drop, slice_get, sum_by, not, Some, None, true, false, IfOk, OnOk, OnErr};
 ghost use Rattle.std.specs.Option.{option_map};
 ghost use Rattle.std.specs.Bool.{OnTrue, OnFalse};
-ghost use Rattle.fact_store.specs.Facts.{Facts, stands, newest_of, older_of, AreDistinctFacts};
+ghost use Rattle.fact_store.specs.Facts.{Facts, IsNumberOf, stands, newest_of, older_of, AreDistinctFacts};
 
 use crate::chains::{Chains, extend_within, push_within};
 use crate::entry::{Entry, args_of, bucket};
-use crate::walk::{grow, stands_in};
+use crate::walk::{grow, number_in};
 use std::alloc::Global;
 use std::marker::Model;
 use text_core::Memory;
@@ -123,7 +123,15 @@ impl Store {
     pub fn holds(&self, signed: u32, args: &[u32]) -> bool
         ensures { result ≡ stands signed args.now self.now.facts }
     {
-        stands_in(
+        self.number(signed, args).is_some()
+    }
+
+    /// The number of a fact, from 0 in order of addition; `None` exactly where it does not stand in
+    /// the store.
+    pub fn number(&self, signed: u32, args: &[u32]) -> Option<u32>
+        ensures { IsNumberOf signed args.now self.now.facts result }
+    {
+        number_in(
             &self.by_bucket,
             self.entries.as_slice(),
             self.args.as_slice(),

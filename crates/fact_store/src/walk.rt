@@ -1,5 +1,5 @@
 ghost use Rattle.std.specs.Prelude.{◌≡◌, ◌^◌, ◌<◌, ◌≤◌, length, map, IfOk, OnOk, OnErr};
-ghost use Rattle.fact_store.specs.Facts.{stands};
+ghost use Rattle.fact_store.specs.Facts.{IsNumberOf};
 ghost use Rattle.fact_store.specs.Entries.{facts_in, bucket_of, AreLaid};
 ghost use Rattle.fact_store.specs.Stored.{AreInBuckets};
 
@@ -8,25 +8,26 @@ use crate::entry::{Entry, args_of, bucket, is_entry_of};
 use std::alloc::Global;
 use text_core::Memory;
 
-/// Whether a fact stands among the entries, looked for in the chain of its bucket.
-pub(crate) fn stands_in(
+/// The number of a fact among the entries, looked for in the chain of its bucket; `None` exactly
+/// where it does not stand there.
+pub(crate) fn number_in(
     buckets: &Chains,
     entries: &[Entry],
     args: &[u32],
     signed: u32,
     sought: &[u32],
-) -> bool
+) -> Option<u32>
     requires { AreInBuckets buckets.now entries.now args.now }
-    ensures { result ≡ stands signed sought.now (facts_in args.now entries.now) }
+    ensures { IsNumberOf signed sought.now (facts_in args.now entries.now) result }
 {
     let mut at = buckets.newest(bucket(signed, sought, buckets.width() as u32));
     while let Some(number) = at {
         if is_entry_of(signed, sought, entries[number as usize], args) {
-            return true;
+            return Some(number);
         }
         at = buckets.older(number);
     }
-    false
+    None
 }
 
 /// Makes room for so many facts, and as many buckets at least; where there are too few, their

@@ -1,6 +1,10 @@
 pub mod Digits
+pub mod Naming
 pub mod Saying
 pub mod Proving
 pub mod Standing
+pub mod Spelling
+pub mod Making
 pub mod Outcomes
+pub mod Completing
 pub mod OneOutcome

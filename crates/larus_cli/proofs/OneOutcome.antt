@@ -21,31 +21,30 @@ use Rattle.include_flat.proofs.Laws.{one_list, never_both, one_refusal}
 use Rattle.coherent_form.specs.declared.task_refusal.TaskRefusal.{TaskRefusal}
 use Rattle.coherent_form.specs.Tasks.{CitedTask, IsTaskOf, IsTaskFault}
 use Rattle.coherent_form.proofs.Laws.{cited_once, one_task, one_task_refusal, task_not_refused}
-use Rattle.proof_text.specs.declared.part.Edition.{Edition}
-use Rattle.proof_text.specs.declared.part.Edition.TheVariants.{First, Second}
-use Rattle.proof_text.specs.declared.refusal.ScriptRefusal.{ScriptRefusal}
+use Rattle.proof_text.specs.declared.part.Edition.TheVariants.{First}
 use Rattle.proof_text.specs.Canonical.{script_text as written_text}
 use Rattle.proof_text.specs.ScriptOf.{script_of}
 use Rattle.proof_text.specs.Values.{Written}
-use Rattle.proof_text.specs.Scripts.{IsScriptOf, ProofFault}
-use Rattle.proof_text.proofs.Laws.{scripts_same, refusals_same, script_not_refused}
 use Rattle.proof_checker.specs.declared.refusal.StepRefusal.{StepRefusal}
 use Rattle.proof_checker.specs.Accepted.{IsAcceptedAs}
 use Rattle.proof_text.specs.StandsFor.{AreCitedOnce}
 use Rattle.proof_checker.specs.Faults.{IsFault}
 use Rattle.proof_checker.proofs.Laws.{accepted_one, fault_one, accepted_none}
 use Rattle.larus_cli.specs.declared.command.Command.{Command}
-use Rattle.larus_cli.specs.declared.command.Command.TheVariants.{ConvertVernacular, ConvertVersion2}
-use Rattle.larus_cli.specs.declared.command.TheConstants.{MOST_STEPS}
-use Rattle.larus_cli.specs.Words.{Aim, to_print, to_prove, to_judge, command_of, prove_words, rewrite_words, names_in, names_of, NamesTask, NamesBoth}
-use Rattle.larus_cli.specs.Texts.{accepted_text, usage_text, too_long_text, flat_text, formula_text, script_text, step_text, none_text}
-use Rattle.larus_cli.specs.Read.{ReadsTask, ReadsBytes, ReadsScript}
+use Rattle.larus_cli.specs.declared.command.Command.TheVariants.{Check, Prove, ExportIsar, ExportEnglish, ConvertProblem, ConvertVernacular, ConvertIsar, ConvertVersion2, Demo}
+use Rattle.larus_cli.specs.declared.command.Format.{Format}
+use Rattle.larus_cli.specs.declared.command.Wanted.{Wanted}
+use Rattle.larus_cli.specs.declared.report.ProofWhy.{ProofWhy}
+use Rattle.larus_cli.specs.Words.{Aim, to_print, to_prove, to_judge, command_of, Asks, NamesBoth}
+use Rattle.larus_cli.specs.OwnFiles.{looked_in, looked_at}
+use Rattle.larus_cli.specs.Texts.{usage_text, too_long_text, flat_text, formula_text, proof_text, step_text, none_text}
+use Rattle.larus_cli.specs.Read.{ReadsTask, ReadsBytes, Spells, SpellsNone, ReadsScript}
 use Rattle.larus_cli.specs.Smallest.{IsSmallest, HasNoProof}
-use Rattle.larus_cli.specs.Done.{Done, accepted, proved, converted, rewritten}
+use Rattle.larus_cli.specs.Done.{Done, told, judged, proved, converted}
 use Rattle.larus_cli.specs.Answers.{Answer, done, step_refused, none_up_to, problem_refused, formula_refused, too_long, proof_refused, usage, fault}
 use Rattle.larus_cli.specs.Outcome.{Sinks, PutsTo, Outcome, answered, broken, out_of_memory, IsSettled, Alike, one_text, two_smallest, EndAlike}
-use Rattle.larus_cli.proofs.Saying.{names_check, names_prove, names_rewrite}
-use Rattle.larus_cli.proofs.Outcomes.{names_some}
+use Rattle.larus_cli.proofs.Outcomes.{asks_some}
+use Rattle.larus_cli.proofs.Spelling.{spelled_same, reasons_same, spelled_never}
 
 -- what is said: one text, or that of some smallest proof of a task
 data Said : Type 0 where
@@ -55,7 +54,7 @@ data Said : Type 0 where
 -- the text is what is said
 abbrev Means : List Text → Said → Text → Type 0
 Means words (exactly said) text = text ≡ said
-Means words (some_smallest task) text = (problem : Text) × (most : ℕ) × (body : Body) × (words ≡ prove_words problem most) ×
+Means words (some_smallest task) text = (problem : Text) × (most : ℕ) × (body : Body) × Asks words problem (to_prove most) ×
     IsSmallest task body × (text ≡ written_text (script_of First task body))
 
 -- texts that are what is said are alike
@@ -83,50 +82,43 @@ on_errors text status = record { output = false; said = exactly text; status = s
 abbrev found_end : CitedTask → End
 found_end task = record { output = true; said = some_smallest task; status = 0 }
 
--- what is said of an accepted proof, by the command
-abbrev Tells : Type 0
-Tells = CitedTask → Body → Text
-
-abbrev told_by : Option Command → Tells
-told_by (Some ConvertVernacular) task body = written_text (script_of First task body)
-told_by (Some ConvertVersion2) task body = written_text (script_of Second task body)
-told_by _ task body = accepted_text (size body)
-
-module _ (tell : Tells) where
+module _ (wanted : Wanted) where
   -- by the script that the bytes of the second file spell
   abbrev OnScript : CitedTask → End → Written → Type 0
-  OnScript task end script = ((body : Body) × IsAcceptedAs task script body × (end ≡ on_output (tell task body) 0)) ⊎
+  OnScript task end script = ((body : Body) × IsAcceptedAs task script body × (end ≡ on_output (told wanted task body) 0)) ⊎
       ((refusal : StepRefusal) × IsFault task script refusal × (end ≡ on_output (step_text refusal) 1))
 
   -- two ends by the script are one
   one_by_script : (task : CitedTask) (script : Written) (a b : End) → AreCitedOnce task → OnScript task a script → OnScript task b script → a ≡ b
   one_by_script task script a b once (inl (body, is, e)) (inl (other, also, f)) =
-      e ∙ ap (λ tree. on_output (tell task tree) 0) (accepted_one task once script body other is also) ∙ sym f
+      e ∙ ap (λ tree. on_output (told wanted task tree) 0) (accepted_one task once script body other is also) ∙ sym f
   one_by_script task script a b once (inl (body, is, e)) (inr (refusal, because, f)) = absurd (accepted_none task once script body refusal is because)
   one_by_script task script a b once (inr (refusal, because, e)) (inl (body, is, f)) = absurd (accepted_none task once script body refusal is because)
   one_by_script task script a b once (inr (refusal, is, e)) (inr (other, also, f)) =
       e ∙ ap (λ r. on_output (step_text r) 1) (fault_one task once script refusal other is also) ∙ sym f
 
   -- by the bytes of the second file
-  abbrev OnBytes : Text → CitedTask → End → Text → Type 0
-  OnBytes name task end bytes = ((refusal : ScriptRefusal) × ProofFault bytes refusal × (end ≡ on_errors (name ++ script_text refusal) 3)) ⊎
-      ((script : Written) × IsScriptOf bytes script × OnScript task end script)
+  abbrev OnBytes : Format → Text → CitedTask → End → Text → Type 0
+  OnBytes format name task end bytes = ((why : ProofWhy) × SpellsNone format task bytes why × (end ≡ on_errors (name ++ proof_text why) 3)) ⊎
+      ((script : Written) × Spells format task bytes script × OnScript task end script)
 
   -- two ends by the bytes of the second file are one
-  one_by_bytes : (name : Text) (task : CitedTask) (bytes : Text) (a b : End) → AreCitedOnce task → OnBytes name task a bytes →
-      OnBytes name task b bytes → a ≡ b
-  one_by_bytes name task bytes a b once (inl (refusal, is, e)) (inl (other, also, f)) =
-      e ∙ ap (λ r. on_errors (name ++ script_text r) 3) (refusals_same bytes refusal other is also) ∙ sym f
-  one_by_bytes name task bytes a b once (inl (refusal, because, e)) (inr (script, is, f)) = absurd (script_not_refused bytes script refusal is because)
-  one_by_bytes name task bytes a b once (inr (script, is, e)) (inl (refusal, because, f)) = absurd (script_not_refused bytes script refusal is because)
-  one_by_bytes name task bytes a b once (inr (script, is, e)) (inr (other, also, f)) =
-      one_by_script task script a b once e (subst (OnScript task b) (scripts_same bytes other script also is) f)
+  one_by_bytes : (format : Format) (name : Text) (task : CitedTask) (bytes : Text) (a b : End) → AreCitedOnce task →
+      OnBytes format name task a bytes → OnBytes format name task b bytes → a ≡ b
+  one_by_bytes format name task bytes a b once (inl (why, is, e)) (inl (other, also, f)) =
+      e ∙ ap (λ w. on_errors (name ++ proof_text w) 3) (reasons_same format task bytes why other is also) ∙ sym f
+  one_by_bytes format name task bytes a b once (inl (why, because, e)) (inr (script, is, f)) =
+      absurd (spelled_never format task bytes script why is because)
+  one_by_bytes format name task bytes a b once (inr (script, is, e)) (inl (why, because, f)) =
+      absurd (spelled_never format task bytes script why is because)
+  one_by_bytes format name task bytes a b once (inr (script, is, e)) (inr (other, also, f)) =
+      one_by_script task script a b once e (subst (OnScript task b) (spelled_same format task bytes other script also is) f)
 
-module _ (tell : Tells) (held : Held) where
+module _ (held : Held) where
   -- by the second file
-  abbrev OnSecond : Text → End → CitedTask → Type 0
-  OnSecond name end task = (IsLong held name MOST_FILE_BYTES × (end ≡ on_errors (name ++ too_long_text) 3)) ⊎
-      ((bytes : Text) × (finite.get held name ≡ Some bytes) × (length bytes ≤ MOST_FILE_BYTES) × OnBytes tell name task end bytes)
+  abbrev OnSecond : Wanted → Format → Text → End → CitedTask → Type 0
+  OnSecond wanted format name end task = (IsLong held name MOST_FILE_BYTES × (end ≡ on_errors (name ++ too_long_text) 3)) ⊎
+      ((bytes : Text) × (finite.get held name ≡ Some bytes) × (length bytes ≤ MOST_FILE_BYTES) × OnBytes wanted format name task end bytes)
 
   -- no file is both too long and within the bound
   not_long : (name bytes : Text) → IsLong held name MOST_FILE_BYTES → finite.get held name ≡ Some bytes → length bytes ≤ MOST_FILE_BYTES → ⊥
@@ -134,12 +126,13 @@ module _ (tell : Tells) (held : Held) where
       let more = subst (λ o. IsSomeAnd o (λ (bs : Text). MOST_FILE_BYTES < length bs)) get long in absurd (omega arith)
 
   -- two ends by the second file are one
-  one_by_second : (name : Text) (task : CitedTask) (a b : End) → AreCitedOnce task → OnSecond name a task → OnSecond name b task → a ≡ b
-  one_by_second name task a b once (inl (long, e)) (inl (also, f)) = e ∙ sym f
-  one_by_second name task a b once (inl (long, e)) (inr (bytes, get, within, f)) = absurd (not_long name bytes long get within)
-  one_by_second name task a b once (inr (bytes, get, within, e)) (inl (long, f)) = absurd (not_long name bytes long get within)
-  one_by_second name task a b once (inr (bytes, get, within, e)) (inr (others, also, within', f)) =
-      one_by_bytes tell name task bytes a b once e (subst (OnBytes tell name task b) (value_same (sym also ∙ get)) f)
+  one_by_second : (wanted : Wanted) (format : Format) (name : Text) (task : CitedTask) (a b : End) → AreCitedOnce task →
+      OnSecond wanted format name a task → OnSecond wanted format name b task → a ≡ b
+  one_by_second wanted format name task a b once (inl (long, e)) (inl (also, f)) = e ∙ sym f
+  one_by_second wanted format name task a b once (inl (long, e)) (inr (bytes, get, within, f)) = absurd (not_long name bytes long get within)
+  one_by_second wanted format name task a b once (inr (bytes, get, within, e)) (inl (long, f)) = absurd (not_long name bytes long get within)
+  one_by_second wanted format name task a b once (inr (bytes, get, within, e)) (inr (others, also, within', f)) =
+      one_by_bytes wanted format name task bytes a b once e (subst (OnBytes wanted format name task b) (value_same (sym also ∙ get)) f)
 
   -- by the search for a proof within a bound
   abbrev OnSearch : ℕ → End → CitedTask → Type 0
@@ -172,15 +165,16 @@ module _ (tell : Tells) (held : Held) where
   abbrev OnFormulas : Aim → End → List Fof → Type 0
   OnFormulas to_print end flat = end ≡ on_output (problem_text flat) 0
   OnFormulas (to_prove most) end flat = OnTask (OnSearch most end) end flat
-  OnFormulas (to_judge name) end flat = OnTask (OnSecond name end) end flat
+  OnFormulas (to_judge wanted format name) end flat = OnTask (OnSecond wanted format name end) end flat
 
   -- two ends by the formulas of the problem are one
   one_by_formulas : (aim : Aim) (flat : List Fof) (a b : End) → OnFormulas aim a flat → OnFormulas aim b flat → a ≡ b
   one_by_formulas to_print flat a b e f = e ∙ sym f
   one_by_formulas (to_prove most) flat a b e f =
       one_by_task (OnSearch most a) (OnSearch most b) flat a b (λ task once. one_by_search most task a b) e f
-  one_by_formulas (to_judge name) flat a b e f =
-      one_by_task (OnSecond name a) (OnSecond name b) flat a b (λ task once. one_by_second name task a b once) e f
+  one_by_formulas (to_judge wanted format name) flat a b e f =
+      one_by_task (OnSecond wanted format name a) (OnSecond wanted format name b) flat a b
+      (λ task once. one_by_second wanted format name task a b once) e f
 
   -- by the files of the problem
   abbrev OnProblem : End → Text → Aim → Type 0
@@ -202,48 +196,44 @@ module _ (held : Held) where
   -- by the words
   abbrev OnWords : List Text → End → Type 0
   OnWords words end = ((command_of words ≡ None) × (end ≡ on_errors usage_text 64)) ⊎
-      ((problem : Text) × (aim : Aim) × (names_in (command_of words) words ≡ Some (problem, aim)) × OnProblem (told_by (command_of words)) held end problem aim)
+      ((problem : Text) × (aim : Aim) × Asks words problem aim × OnProblem held end problem aim)
 
   -- two ends by the words are one
   one_by_words : (words : List Text) (a b : End) → OnWords words a → OnWords words b → a ≡ b
   one_by_words words a b (inl (none, e)) (inl (also, f)) = e ∙ sym f
-  one_by_words words a b (inl (none, e)) (inr (problem, aim, names, f)) = absurd (names_some words _ names none)
-  one_by_words words a b (inr (problem, aim, names, e)) (inl (none, f)) = absurd (names_some words _ names none)
+  one_by_words words a b (inl (none, e)) (inr (problem, aim, names, f)) = absurd (asks_some words problem aim names none)
+  one_by_words words a b (inr (problem, aim, names, e)) (inl (none, f)) = absurd (asks_some words problem aim names none)
   one_by_words words a b (inr (problem, aim, names, e)) (inr (other, another, also, f)) =
       let same = value_same (sym also ∙ names) in
-      one_by_problem (told_by (command_of words)) held problem aim a b e (subst (λ (n : Text × Aim). OnProblem (told_by (command_of words)) held b n.0 n.1) same f)
+      one_by_problem held problem aim a b e (subst (λ (n : Text × Aim). OnProblem held b n.0 n.1) same f)
 
-  module _ (words : List Text) (files later : Known) (told : files.held ≡ Some held) where
-    abbrev tell : Tells
-    tell = told_by (command_of words)
-
+  module _ (words : List Text) (files later : Known) (holding : files.held ≡ Some held) where
     -- what is said where the files tell what they hold
     here : (P : Held → Type 0) → IfSome files.held P → P held
-    here P is = subst (λ o. IfSome o P) told is
+    here P is = subst (λ o. IfSome o P) holding is
 
     -- an end by the second file of words that name it, where the problem has a task
-    by_task : (problem name : Text) (task : CitedTask) (end : End) → NamesBoth words problem name →
-        ReadsTask files problem task → OnSecond tell held name end task → OnWords words end
-    by_task problem name task end names read is =
-        inr (problem, to_judge name, names, inr (read.formulas, here (λ h. IsFlat h problem read.formulas) read.reads, inr (task, read.has, is)))
+    by_task : (problem : Text) (format : Format) (name : Text) (task : CitedTask) (end : End) (names : NamesBoth words problem format name) →
+        ReadsTask files problem task → OnSecond held names.0 format name end task → OnWords words end
+    by_task problem format name task end names read is = inr (
+      problem,
+      to_judge names.0 format name,
+      names.1,
+      inr (read.formulas, here (λ h. IsFlat h problem read.formulas) read.reads, inr (task, read.has, is)),
+    )
 
     -- an end by the bytes of that file
-    by_bytes : (problem name bytes : Text) (task : CitedTask) (end : End) → NamesBoth words problem name →
-        ReadsBytes files problem name task bytes → OnBytes tell name task end bytes → OnWords words end
-    by_bytes problem name bytes task end names read is = by_task problem name task end names read.reads
+    by_bytes : (problem : Text) (format : Format) (name bytes : Text) (task : CitedTask) (end : End) (names : NamesBoth words problem format name) →
+        ReadsBytes files problem name task bytes → OnBytes names.0 format name task end bytes → OnWords words end
+    by_bytes problem format name bytes task end names read is = by_task problem format name task end names read.reads
         (inr (bytes, here (λ h. finite.get h name ≡ Some bytes) read.holds.held, read.holds.within, is))
 
     -- an end by the script that they spell
-    by_script : (problem proof : Text) (task : CitedTask) (script : Written) (end : End) → NamesBoth words problem proof →
-        ReadsScript files problem proof task script → OnScript tell task end script → OnWords words end
-    by_script problem proof task script end names read is =
-        by_bytes problem proof read.bytes task end names read.reads (inr (script, read.spells, is))
-
-    -- the words of a proof's conversion tell the text of its version
-    told_rewriting : (edition : Edition) (problem proof : Text) (task : CitedTask) (body : Body) → words ≡ rewrite_words edition problem proof →
-        written_text (script_of edition task body) ≡ tell task body
-    told_rewriting First problem proof task body are = ap (λ ws. told_by (command_of ws) task body) (sym are)
-    told_rewriting Second problem proof task body are = ap (λ ws. told_by (command_of ws) task body) (sym are)
+    by_script : (problem : Text) (format : Format) (proof : Text) (task : CitedTask) (script : Written) (end : End)
+        (names : NamesBoth words problem format proof) → ReadsScript format files problem proof task script →
+        OnScript names.0 task end script → OnWords words end
+    by_script problem format proof task script end names read is =
+        by_bytes problem format proof read.bytes task end names read.reads (inr (script, read.spells, is))
 
     -- an end on the output or the errors that says what the text is
     abbrev Ends : Bool → Text → ℕ → Type 0
@@ -251,52 +241,47 @@ module _ (held : Held) where
 
     -- a formula is refused, by what is asked of the problem's task
     by_fault : (aim : Aim) (end : End) (formulas : List Fof) (refusal : TaskRefusal) → aim ≢ to_print → IsTaskFault formulas refusal →
-        end ≡ on_errors (formula_text refusal) 2 → OnFormulas tell held aim end formulas
+        end ≡ on_errors (formula_text refusal) 2 → OnFormulas held aim end formulas
     by_fault to_print end formulas refusal some is e = absurd (some refl)
     by_fault (to_prove most) end formulas refusal some is e = inl (refusal, is, e)
-    by_fault (to_judge name) end formulas refusal some is e = inl (refusal, is, e)
+    by_fault (to_judge wanted format name) end formulas refusal some is e = inl (refusal, is, e)
 
     -- an end by the search in the task of the problem
-    by_search : (problem : Text) (most : ℕ) (task : CitedTask) (end : End) → words ≡ prove_words problem most → most ≤ MOST_STEPS →
-        ReadsTask files problem task → OnSearch tell held most end task → OnWords words end
-    by_search problem most task end are few read is =
+    by_search : (problem : Text) (most : ℕ) (task : CitedTask) (end : End) → Asks words problem (to_prove most) →
+        ReadsTask files problem task → OnSearch held most end task → OnWords words end
+    by_search problem most task end asks read is =
         inr (
           problem,
           to_prove most,
-          names_prove words problem most few are,
+          asks,
           inr (read.formulas, here (λ h. IsFlat h problem read.formulas) read.reads, inr (task, read.has, is)),
         )
 
     -- what is done is an end by the words, on the output with status 0
     by_done : (text : Text) → Done words files text → Ends true text 0
-    by_done _ (accepted problem proof task script body are read) = (
-      exactly (accepted_text (size body)),
-      by_script problem proof task script _ (names_check words problem proof are) read.reads
-          (inl (body, read.accepted, ap (λ ws. on_output (told_by (command_of ws) task body) 0) (sym are))),
+    by_done text (judged wanted format problem proof _ task script body asks read is keeps) = (
+      exactly text,
+      by_script problem format proof task script _ (wanted, asks) read.reads (inl (body, read.accepted, ap (λ t. on_output t 0) is)),
       refl,
     )
-    by_done _ (proved problem text most task body are few read least within is back) = (
+    by_done text (proved problem _ most task body asks read least within is back) = (
       some_smallest task,
-      by_search problem most task _ are few read (inl (body, least, within, refl)),
-      (problem, most, body, are, least, is),
+      by_search problem most task _ asks read (inl (body, least, within, refl)),
+      (problem, most, body, asks, least, is),
     )
-    by_done _ (converted problem text formulas are reads is back) =
-        let names = subst (λ ws. names_in (command_of ws) ws ≡ Some (problem, to_print)) (sym are) refl in
-        (exactly text, inr (problem, to_print, names, inr (formulas, here (λ h. IsFlat h problem formulas) reads, ap (λ t. on_output t 0) is)), refl)
-    by_done _ (rewritten edition problem proof text task script body are read is back) = (
+    by_done text (converted problem _ formulas asks reads is back) = (
       exactly text,
-      by_script problem proof task script _ (names_rewrite edition words problem proof are) read.reads
-          (inl (body, read.accepted, ap (λ t. on_output t 0) (is ∙ told_rewriting edition problem proof task body are))),
+      inr (problem, to_print, asks, inr (formulas, here (λ h. IsFlat h problem formulas) reads, ap (λ t. on_output t 0) is)),
       refl,
     )
 
     -- an answer is an end by the words, unless a fetch failed
     by_row : {output : Bool} {text : Text} {status : ℕ} → Answer words files later output text status → status ≢ 66 → Ends output text status
     by_row (done text row) some = by_done text row
-    by_row (step_refused problem second task script refusal names reads is) some =
-        (exactly (step_text refusal), by_script problem second task script _ names reads (inr (refusal, is, refl)), refl)
-    by_row (none_up_to problem most task are few read is) some =
-        (exactly (none_text most), by_search problem most task _ are few read (inr (is, refl)), refl)
+    by_row (step_refused problem second format task script refusal names reads is) some =
+        (exactly (step_text refusal), by_script problem format second task script _ names reads (inr (refusal, is, refl)), refl)
+    by_row (none_up_to problem most task asks read is) some =
+        (exactly (none_text most), by_search problem most task _ asks read (inr (is, refl)), refl)
     by_row (problem_refused problem file why names is inner) some = (
       exactly (file ++ flat_text why),
       inr (problem, names.0, names.1, inl (file, why, here (λ h. IsFlatRefused h problem file why) is, refl)),
@@ -316,18 +301,32 @@ module _ (held : Held) where
       ),
       refl,
     )
-    by_row (too_long problem second task names read long) some = (
+    by_row (too_long problem second format task names read long) some = (
       exactly (second ++ too_long_text),
-      by_task problem second task _ names read (inl (here (λ h. IsLong h second MOST_FILE_BYTES) long, refl)),
+      by_task problem format second task _ names read (inl (here (λ h. IsLong h second MOST_FILE_BYTES) long, refl)),
       refl,
     )
-    by_row (proof_refused problem second task bytes refusal names read is) some = (
-      exactly (second ++ script_text refusal),
-      by_bytes problem second bytes task _ names read (inl (refusal, is, refl)),
+    by_row (proof_refused problem second format task bytes why names read is) some = (
+      exactly (second ++ proof_text why),
+      by_bytes problem format second bytes task _ names read (inl (why, is, refl)),
       refl,
     )
     by_row (usage none) some = (exactly usage_text, inl (none, refl), refl)
     by_row (fault file asked fails) some = absurd (some refl)
+
+-- the files at which two runs look, where those of the program hold the same
+looked_same : (command : Option Command) (files other : Known) (held : Held) → files.held ≡ Some held → other.held ≡ Some held →
+    (own : Held) × ((looked_in command files).held ≡ Some own) × ((looked_in command other).held ≡ Some own)
+looked_same (Some (Demo k)) files other held told also = (_, refl, refl)
+looked_same (Some Check) files other held told also = (held, told, also)
+looked_same (Some (Prove most)) files other held told also = (held, told, also)
+looked_same (Some ExportIsar) files other held told also = (held, told, also)
+looked_same (Some ExportEnglish) files other held told also = (held, told, also)
+looked_same (Some ConvertProblem) files other held told also = (held, told, also)
+looked_same (Some ConvertVernacular) files other held told also = (held, told, also)
+looked_same (Some ConvertIsar) files other held told also = (held, told, also)
+looked_same (Some ConvertVersion2) files other held told also = (held, told, also)
+looked_same None files other held told also = (held, told, also)
 
 -- two outcomes of the same words, over files that hold the same
 pub one_outcome : (words : List Text) (held : Held) (files later other last : Known) (old new before after : Sinks) (status end : ℕ) →
@@ -335,9 +334,10 @@ pub one_outcome : (words : List Text) (held : Held) (files later other last : Kn
     IsSettled status → IsSettled end → EndAlike words old new before after status end
 one_outcome words held files later other last old new before after _ _ told also (answered output text status row put)
     (answered output' text' end row' put') settled settled' =
-    let a = by_row held words files later told row settled.fetched in
-    let b = by_row held words other last also row' settled'.fetched in
-    let one = one_by_words held words _ _ a.1 b.1 in
+    let own = looked_same (command_of words) files other held told also in
+    let a = by_row own.0 words (looked_at words files) (looked_at words later) own.1 row settled.fetched in
+    let b = by_row own.0 words (looked_at words other) (looked_at words last) own.2 row' settled'.fetched in
+    let one = one_by_words own.0 words _ _ a.1 b.1 in
     record {
       output = output;
       text = text;

@@ -1,17 +1,16 @@
 -- What the outcome of a run says of its status.
-use Rattle.std.specs.Prelude.{IfSome, codes}
+use Rattle.std.specs.Prelude.{◌≢◌, IfSome, codes}
 use Rattle.std.specs.List.{AllByRecursion}
-use Rattle.std.specs.Fmt.{decimal}
-use Rattle.std.proofs.lemmas.Fmt.{decimal_injective}
-use Rattle.std.proofs.Common.{◌≡◌, ◌≤◌, ◌⊎◌, inl, inr, ℕ, Bool, true, false, List, get_or, Option, Some, None, refl, sym, ap, subst, ◌∙◌, arith}
+use Rattle.std.proofs.Common.{◌≡◌, ◌≤◌, ◌⊎◌, inl, inr, ℕ, Bool, true, false, List, [], ◌∷◌, Option, Some, None, refl, sym, ap, subst, ◌∙◌, arith}
+use Rattle.text_core.specs.Lists.{IsAmong}
 use Rattle.text_core.specs.Names.{Text}
-use Rattle.text_core.proofs.Laws.{value_same}
 use Rattle.logic_core.specs.Allowed.{FofIsAllowed}
 use Rattle.logic_core.specs.Truth.{Structure}
 use Rattle.logic_core.specs.Problems.{Follows}
 use Rattle.logic_core.specs.declared.problem.Fof.{Fof}
 use Rattle.vernacular_tree.specs.Rules.{Proves}
 use Rattle.vernacular_tree.specs.declared.tree.Body.{Body}
+use Rattle.io_core.specs.Causes.{Rose}
 use Rattle.io_core.specs.Held.{Held}
 use Rattle.io_core.specs.Known.{Known}
 use Rattle.io_core.specs.Stream.{Stream, Puts, Breaks}
@@ -20,19 +19,27 @@ use Rattle.include_flat.proofs.Laws.{flat_allowed}
 use Rattle.coherent_form.specs.Tasks.{CitedTask, IsTaskOf, proof_task}
 use Rattle.proof_text.specs.declared.part.Edition.{Edition}
 use Rattle.proof_text.specs.declared.part.Edition.TheVariants.{First, Second}
+use Rattle.larus_cli.specs.declared.command.Command.{Command}
+use Rattle.larus_cli.specs.declared.command.Command.TheVariants.{Check, Prove, ExportIsar, ExportEnglish, ConvertProblem, ConvertVernacular, ConvertIsar, ConvertVersion2, Demo}
+use Rattle.larus_cli.specs.declared.command.Wanted.{Wanted}
+use Rattle.larus_cli.specs.declared.command.Wanted.TheVariants.{Size, Script}
+use Rattle.larus_cli.specs.declared.command.Wanted.TheVariants as wants
+use Rattle.larus_cli.specs.declared.command.Format.{Format}
+use Rattle.larus_cli.specs.declared.command.Format.TheVariants.{Vernacular, Isar}
 use Rattle.larus_cli.specs.declared.command.TheConstants.{MOST_STEPS}
-use Rattle.larus_cli.specs.Words.{Aim, to_prove, to_judge, command_of, check_words, prove_words, convert_words, rewrite_words, names_in, names_of}
+use Rattle.larus_cli.specs.Words.{Aim, to_print, to_prove, to_judge, command_of, check_words, prove_words, export_words, isar_words, convert_words, rewrite_words, Asks}
+use Rattle.larus_cli.specs.OwnFiles.{looked_in, looked_at, FilesUnasked, AsksNoFile}
 use Rattle.larus_cli.specs.Texts.{none_text}
-use Rattle.larus_cli.specs.Read.{ReadsTask}
+use Rattle.larus_cli.specs.Read.{ReadsTask, ReadsProof}
 use Rattle.larus_cli.specs.Smallest.{HasNoProof}
 use Rattle.larus_cli.specs.Sought.{SmallestPrinted, NoneTold}
-use Rattle.larus_cli.specs.Done.{Done, accepted, proved, converted, rewritten}
+use Rattle.larus_cli.specs.Done.{Done, told, judged, proved, converted, KeepsProof}
 use Rattle.larus_cli.specs.Follows.{ProblemFollows}
-use Rattle.larus_cli.specs.Printed.{ReadsBack, ProblemPrinted, ProofPrinted}
+use Rattle.larus_cli.specs.Printed.{ReadsBack, ReadsBackAs, ProblemPrinted, ProofPrinted, IsarPrinted}
 use Rattle.larus_cli.specs.Answers.{IsAsked, of_problem, as_second, Answer, done, step_refused, none_up_to, problem_refused, formula_refused}
 use Rattle.larus_cli.specs.Answers.{too_long, proof_refused, usage, fault}
-use Rattle.larus_cli.specs.Outcome.{Sinks, sinks, PutsTo, Outcome, answered, broken, out_of_memory}
-use Rattle.larus_cli.proofs.Saying.{prove_command, names_prove}
+use Rattle.larus_cli.specs.Outcome.{Sinks, sinks, PutsTo, IsReply, Outcome, answered, broken, out_of_memory}
+use Rattle.larus_cli.proofs.Saying.{prove_command, asks_check, asks_prove, asks_export, asks_isar, asks_convert, asks_rewrite, one_problem, one_aim}
 
 -- an answer with status 0 goes to the output, and the command is done
 done_row : {words : List Text} {files later : Known} {output : Bool} {text : Text} {status : ℕ} → Answer words files later output text status →
@@ -42,11 +49,63 @@ done_row row e = absurd (omega arith)
 
 -- with status 0 the command is done, and its text is put to the output
 done_of : {words : List Text} {files later : Known} {old new : Sinks} {status : ℕ} → Outcome words files later old new status → status ≡ 0 →
-    (text : Text) × Done words files text × Puts old.out new.out text
+    (text : Text) × Done words (looked_at words files) text × Puts old.out new.out text
 done_of {old = old} {new = new} (answered output text status row put) e =
     let k = done_row row e in
     (text, k.1, (subst (λ o. PutsTo o old new text) k.0 put).0)
 done_of outcome e = absurd (omega arith)
+
+-- words that name files look at those of the program
+looks_check : (words : List Text) (problem proof : Text) (files : Known) → words ≡ check_words problem proof → looked_at words files ≡ files
+looks_check words problem proof files are = subst (λ ws. looked_at ws files ≡ files) (sym are) refl
+
+looks_convert : (words : List Text) (problem : Text) (files : Known) → words ≡ convert_words problem → looked_at words files ≡ files
+looks_convert words problem files are = subst (λ ws. looked_at ws files ≡ files) (sym are) refl
+
+looks_rewrite : (edition : Edition) (words : List Text) (problem proof : Text) (files : Known) → words ≡ rewrite_words edition problem proof →
+    looked_at words files ≡ files
+looks_rewrite First words problem proof files are = subst (λ ws. looked_at ws files ≡ files) (sym are) refl
+looks_rewrite Second words problem proof files are = subst (λ ws. looked_at ws files ≡ files) (sym are) refl
+
+looks_export : (words : List Text) (problem proof : Text) (files : Known) → words ≡ export_words (codes "isar") problem proof →
+    looked_at words files ≡ files
+looks_export words problem proof files are = subst (λ ws. looked_at ws files ≡ files) (sym are) refl
+
+looks_isar : (words : List Text) (problem text : Text) (files : Known) → words ≡ isar_words problem text → looked_at words files ≡ files
+looks_isar words problem text files are = subst (λ ws. looked_at ws files ≡ files) (sym are) refl
+
+looks_prove : (words : List Text) (problem : Text) (most : ℕ) (files : Known) → most ≤ MOST_STEPS → words ≡ prove_words problem most →
+    looked_at words files ≡ files
+looks_prove words problem most files few are = subst (λ ws. looked_at ws files ≡ files) (sym are)
+    (subst (λ command. looked_in command files ≡ files) (sym (prove_command problem most few)) refl)
+
+-- what is asked of a problem is one thing
+judged_sought : {wanted : Wanted} {format : Format} {second : Text} {most : ℕ} → to_judge wanted format second ≡ to_prove most → ⊥
+judged_sought e = cc
+
+judged_printed : {wanted : Wanted} {format : Format} {second : Text} → to_judge wanted format second ≡ to_print → ⊥
+judged_printed e = cc
+
+sought_printed : {most : ℕ} → to_prove most ≡ to_print → ⊥
+sought_printed e = cc
+
+-- the bound within which a proof is sought is one
+bound_same : {most bound : ℕ} → to_prove most ≡ to_prove bound → most ≡ bound
+bound_same e = cc
+
+-- what is wanted of a proof is one thing, and so is the file that it is in
+wanted_same : {wanted other : Wanted} {format kind : Format} {second another : Text} → to_judge wanted format second ≡ to_judge other kind another →
+    wanted ≡ other
+wanted_same e = cc
+
+second_same : {wanted other : Wanted} {format kind : Format} {second another : Text} → to_judge wanted format second ≡ to_judge other kind another →
+    second ≡ another
+second_same e = cc
+
+-- and how it is read
+format_same : {wanted other : Wanted} {format kind : Format} {second another : Text} → to_judge wanted format second ≡ to_judge other kind another →
+    format ≡ kind
+format_same e = cc
 
 -- the conjecture follows where the task of a problem is proved
 abbrev Law : Structure → Type 0
@@ -59,69 +118,23 @@ flat_follows : (s : Structure) (held : Option Held) (name : Text) (formulas : Li
 flat_follows s None name formulas flat follows = tt
 flat_follows s (Some h) name formulas flat follows = (formulas, flat, follows (flat_allowed h name formulas flat))
 
--- the words of a check tell the problem, and are no conversion
-check_same : (words : List Text) (problem proof other another : Text) → words ≡ check_words problem proof → words ≡ check_words other another →
-    other ≡ problem
-check_same words problem proof other another e f = cc
-
--- the words of a check are not those of a conversion
-apart : (words : List Text) (problem proof other : Text) → words ≡ check_words problem proof → words ≡ convert_words other → ⊥
-apart words problem proof other e f = cc
-
--- the words by which a proof is sought are not those of a check, and not those of a conversion
-sought : (words : List Text) (problem proof other : Text) (most : ℕ) → words ≡ check_words problem proof → words ≡ prove_words other most → ⊥
-sought words problem proof other most e f =
-    let head : codes "check" ≡ codes "prove" = cc in let first : ◌≡◌ {A = ℕ} 99 112 = ap (λ (w : Text). get_or w 0 0) head in absurd (omega arith)
-
-sought_converted : (words : List Text) (problem other : Text) (most : ℕ) → words ≡ convert_words problem → words ≡ prove_words other most → ⊥
-sought_converted words problem other most e f = cc
-
-sought_rewritten : (edition : Edition) (words : List Text) (problem proof other : Text) (most : ℕ) → words ≡ rewrite_words edition problem proof →
-    words ≡ prove_words other most → ⊥
-sought_rewritten edition words problem proof other most e f = cc
-
--- the words by which a proof is sought tell the problem and the bound
-prove_same : (words : List Text) (problem other : Text) (most bound : ℕ) → most ≤ MOST_STEPS → bound ≤ MOST_STEPS →
-    words ≡ prove_words problem most → words ≡ prove_words other bound → (other ≡ problem) × (bound ≡ most)
-prove_same words problem other most bound few small e f =
-    let digits : decimal bound ≡ decimal most = cc in
-    (cc, decimal_injective bound most (omega arith) (omega arith) digits)
-
--- the words of a check are fewer than those of a proof's conversion, and so are those of a problem's
-longer : (edition : Edition) (words : List Text) (problem proof other another : Text) → words ≡ check_words problem proof →
-    words ≡ rewrite_words edition other another → ⊥
-longer edition words problem proof other another e f = cc
-
-longer_converted : (edition : Edition) (words : List Text) (problem other another : Text) → words ≡ convert_words problem →
-    words ≡ rewrite_words edition other another → ⊥
-longer_converted edition words problem other another e f = cc
-
--- the words of a proof's conversion tell the version, the problem and the proof
-rewrite_same : (edition version : Edition) (words : List Text) (problem proof other another : Text) → words ≡ rewrite_words edition problem proof →
-    words ≡ rewrite_words version other another → (version ≡ edition) × ((other ≡ problem) × (another ≡ proof))
-rewrite_same First First words problem proof other another e f = (refl, (cc, cc))
-rewrite_same First Second words problem proof other another e f = absurd cc
-rewrite_same Second First words problem proof other another e f = absurd cc
-rewrite_same Second Second words problem proof other another e f = (refl, (cc, cc))
-
--- the words of a conversion tell the problem
-convert_same : (words : List Text) (problem other : Text) → words ≡ convert_words problem → words ≡ convert_words other → other ≡ problem
-convert_same words problem other e f = cc
-
 -- the problem of an accepted proof follows
 pub follows_of : (s : Structure) → Law s → {words : List Text} {files later : Known} {old new : Sinks} {status : ℕ} →
     Outcome words files later old new status → (problem proof : Text) → words ≡ check_words problem proof → status ≡ 0 →
     ProblemFollows s files problem
-follows_of s law {words = words} {files = files} outcome problem proof are e = by (done_of outcome e).1
+follows_of s law {words = words} {files = files} outcome problem proof are e =
+    subst (λ f. ProblemFollows s f problem) (looks_check words problem proof files are) (by (looked_at words files) (done_of outcome e).1)
   where
-    by : {text : Text} → Done words files text → ProblemFollows s files problem
-    by (accepted other another task script body also reads) =
+    asks : Asks words problem (to_judge Size Vernacular proof)
+    asks = asks_check words problem proof are
+
+    by : (known : Known) {text : Text} → Done words known text → ProblemFollows s known problem
+    by known (judged wanted format other another text task script body also reads is keeps) =
         let read = reads.reads.reads.reads in
-        subst (ProblemFollows s files) (check_same words problem proof other another are also)
-        (flat_follows s files.held other read.formulas read.reads (λ allowed. law read.formulas task body allowed read.has reads.accepted.proves))
-    by (proved other text most task body also few reads smallest within is back) = absurd (sought words problem proof other most are also)
-    by (converted other text formulas also reads is back) = absurd (apart words problem proof other are also)
-    by (rewritten edition other another text task script body also reads is back) = absurd (longer edition words problem proof other another are also)
+        subst (ProblemFollows s known) (one_problem words also asks)
+        (flat_follows s known.held other read.formulas read.reads (λ allowed. law read.formulas task body allowed read.has reads.accepted.proves))
+    by known (proved other text most task body also reads smallest within is back) = absurd (judged_sought (one_aim words asks also))
+    by known (converted other text formulas also reads is back) = absurd (judged_printed (one_aim words asks also))
 
 -- where a text is printed that reads back as the formulas of a problem, the problem is printed
 flat_printed : (held : Option Held) (name text : Text) (formulas : List Fof) (old new : Stream) → IfSome held (λ h. IsFlat h name formulas) →
@@ -133,126 +146,154 @@ flat_printed (Some h) name text formulas old new flat put back = (formulas, flat
 -- what is printed for a converted problem reads back
 pub printed_of : {words : List Text} {files later : Known} {old new : Sinks} {status : ℕ} → Outcome words files later old new status →
     (problem : Text) → words ≡ convert_words problem → status ≡ 0 → ProblemPrinted files problem old.out new.out
-printed_of {words = words} {files = files} {old = old} {new = new} outcome problem are e = by (done_of outcome e).1 (done_of outcome e).2
+printed_of {words = words} {files = files} {old = old} {new = new} outcome problem are e =
+    subst (λ f. ProblemPrinted f problem old.out new.out) (looks_convert words problem files are)
+    (by (looked_at words files) (done_of outcome e).1 (done_of outcome e).2)
   where
-    by : {text : Text} → Done words files text → Puts old.out new.out text → ProblemPrinted files problem old.out new.out
-    by (accepted other another task script body also reads) put = absurd (apart words other another problem also are)
-    by (proved other text most task body also few reads smallest within is back) put = absurd (sought_converted words problem other most are also)
-    by (converted other text formulas also reads is back) put =
-        subst (λ p. ProblemPrinted files p old.out new.out) (convert_same words problem other are also)
-        (flat_printed files.held other text formulas old.out new.out reads put back)
-    by (rewritten edition other another text task script body also reads is back) put =
-        absurd (longer_converted edition words problem other another are also)
+    asks : Asks words problem to_print
+    asks = asks_convert words problem are
+
+    by : (known : Known) {text : Text} → Done words known text → Puts old.out new.out text → ProblemPrinted known problem old.out new.out
+    by known (judged wanted format other another text task script body also reads is keeps) put = absurd (judged_printed (one_aim words also asks))
+    by known (proved other text most task body also reads smallest within is back) put = absurd (sought_printed (one_aim words also asks))
+    by known (converted other text formulas also reads is back) put =
+        subst (λ p. ProblemPrinted known p old.out new.out) (one_problem words also asks)
+        (flat_printed known.held other text formulas old.out new.out reads put back)
+
+-- what is printed for a conversion of the proof in a second file, by what the words ask for
+by_asks : {words : List Text} (known : Known) {text : Text} (format : Format) (edition : Edition) (problem proof : Text) (old new : Stream) →
+    Asks words problem (to_judge (Script edition) format proof) → Done words known text → Puts old new text →
+    ProofPrinted format edition known problem proof old new
+by_asks {words = words} known format edition problem proof old new asks (judged wanted kind other another text task script body also reads is keeps) put =
+    let aims = one_aim words also asks in
+    let same = wanted_same aims in
+    let file : other ≡ problem = one_problem words also asks in
+    let second : another ≡ proof = second_same aims in
+    let read : ReadsProof format known other another task script body =
+    subst (λ f. ReadsProof f known other another task script body) (format_same aims) reads in
+    let kept : KeepsProof (Script edition) text task body = subst (λ w. KeepsProof w text task body) same keeps in
+    let text_is : text ≡ told (Script edition) task body = subst (λ w. text ≡ told w task body) same is in
+    subst (λ (k : Text × Text). ProofPrinted format edition known k.0 k.1 old new) (λ i. (file i, second i))
+    (record { task = task; script = script; body = body; reads = read; text = text; puts = put; text_is = text_is; back = kept })
+by_asks {words = words} known format edition problem proof old new asks (proved other text most task body also reads smallest within is back) put =
+    absurd (judged_sought (one_aim words asks also))
+by_asks {words = words} known format edition problem proof old new asks (converted other text formulas also reads is back) put =
+    absurd (judged_printed (one_aim words asks also))
 
 -- what is printed for a converted proof reads back
 pub rewritten_of : {words : List Text} {files later : Known} {old new : Sinks} {status : ℕ} → Outcome words files later old new status →
     (edition : Edition) (problem proof : Text) → words ≡ rewrite_words edition problem proof → status ≡ 0 →
-    ProofPrinted edition files problem proof old.out new.out
-rewritten_of {words = words} {files = files} {old = old} {new = new} outcome edition problem proof are e = by (done_of outcome e).1 (done_of outcome e).2
+    ProofPrinted Vernacular edition files problem proof old.out new.out
+rewritten_of {words = words} {files = files} {old = old} {new = new} outcome edition problem proof are e =
+    subst (λ f. ProofPrinted Vernacular edition f problem proof old.out new.out) (looks_rewrite edition words problem proof files are)
+    (by_asks (looked_at words files) Vernacular edition problem proof old.out new.out (asks_rewrite edition words problem proof are)
+    (done_of outcome e).1 (done_of outcome e).2)
+
+-- what is printed for a converted Isar text reads back
+pub isar_of : {words : List Text} {files later : Known} {old new : Sinks} {status : ℕ} → Outcome words files later old new status →
+    (problem text : Text) → words ≡ isar_words problem text → status ≡ 0 → ProofPrinted Isar First files problem text old.out new.out
+isar_of {words = words} {files = files} {old = old} {new = new} outcome problem text are e =
+    subst (λ f. ProofPrinted Isar First f problem text old.out new.out) (looks_isar words problem text files are)
+    (by_asks (looked_at words files) Isar First problem text old.out new.out (asks_isar words problem text are)
+    (done_of outcome e).1 (done_of outcome e).2)
+
+-- what is printed for a proof exported in Isar reads back
+pub exported_of : {words : List Text} {files later : Known} {old new : Sinks} {status : ℕ} → Outcome words files later old new status →
+    (problem proof : Text) → words ≡ export_words (codes "isar") problem proof → status ≡ 0 → IsarPrinted files problem proof old.out new.out
+exported_of {words = words} {files = files} {old = old} {new = new} outcome problem proof are e =
+    subst (λ f. IsarPrinted f problem proof old.out new.out) (looks_export words problem proof files are)
+    (by (looked_at words files) (done_of outcome e).1 (done_of outcome e).2)
   where
-    by : {text : Text} → Done words files text → Puts old.out new.out text → ProofPrinted edition files problem proof old.out new.out
-    by (accepted other another task script body also reads) put = absurd (longer edition words other another problem proof also are)
-    by (proved other text most task body also few reads smallest within is back) put =
-        absurd (sought_rewritten edition words problem proof other most are also)
-    by (converted other text formulas also reads is back) put = absurd (longer_converted edition words other problem proof also are)
-    by (rewritten version other another text task script body also reads is back) put =
-        let same = rewrite_same edition version words problem proof other another are also in
-        subst (λ (k : Edition × (Text × Text)). ProofPrinted k.0 files k.1.0 k.1.1 old.out new.out) (λ i. (same.0 i, (same.1.0 i, same.1.1 i)))
-        (record { task = task; script = script; body = body; reads = reads; text = text; puts = put; back = back })
+    asks : Asks words problem (to_judge wants.Isar Vernacular proof)
+    asks = asks_export words problem proof are
+
+    by : (known : Known) {text : Text} → Done words known text → Puts old.out new.out text → IsarPrinted known problem proof old.out new.out
+    by known (judged wanted format other another text task script body also reads is keeps) put =
+        let aims = one_aim words also asks in
+        let file : other ≡ problem = one_problem words also asks in
+        let second : another ≡ proof = second_same aims in
+        let kept : KeepsProof wants.Isar text task body = subst (λ w. KeepsProof w text task body) (wanted_same aims) keeps in
+        let read : ReadsProof Vernacular known other another task script body =
+        subst (λ kind. ReadsProof kind known other another task script body) (format_same aims) reads in
+        subst (λ (k : Text × Text). IsarPrinted known k.0 k.1 old.out new.out) (λ i. (file i, second i))
+        (record { task = task; script = script; body = body; reads = read; text = text; puts = put; back = kept })
+    by known (proved other text most task body also reads smallest within is back) put = absurd (judged_sought (one_aim words asks also))
+    by known (converted other text formulas also reads is back) put = absurd (judged_printed (one_aim words asks also))
 
 -- what is printed for a proof that was sought reads back as a smallest one
 pub proved_of : {words : List Text} {files later : Known} {old new : Sinks} {status : ℕ} → Outcome words files later old new status →
     (problem : Text) (most : ℕ) → most ≤ MOST_STEPS → words ≡ prove_words problem most → status ≡ 0 →
     SmallestPrinted files problem most old.out new.out
-proved_of {words = words} {files = files} {old = old} {new = new} outcome problem most few are e = by (done_of outcome e).1 (done_of outcome e).2
+proved_of {words = words} {files = files} {old = old} {new = new} outcome problem most few are e =
+    subst (λ f. SmallestPrinted f problem most old.out new.out) (looks_prove words problem most files few are)
+    (by (looked_at words files) (done_of outcome e).1 (done_of outcome e).2)
   where
-    by : {text : Text} → Done words files text → Puts old.out new.out text → SmallestPrinted files problem most old.out new.out
-    by (accepted other another task script body also reads) put = absurd (sought words other another problem most also are)
-    by (proved other text bound task body also small reads smallest within is back) put =
-        let same = prove_same words problem other most bound few small are also in
-        subst (λ (k : Text × ℕ). SmallestPrinted files k.0 k.1 old.out new.out) (λ i. (same.0 i, same.1 i))
-        (record { task = task; body = body; reads = reads; smallest = smallest; within = within; text = text; puts = put; back = back })
-    by (converted other text formulas also reads is back) put = absurd (sought_converted words other problem most also are)
-    by (rewritten edition other another text task script body also reads is back) put =
-        absurd (sought_rewritten edition words other another problem most also are)
+    asks : Asks words problem (to_prove most)
+    asks = asks_prove words problem most few are
 
--- what is asked of a problem is one thing
-aims_apart : (other problem second : Text) (most : ℕ) → ◌≡◌ {A = Option (Text × Aim)} (Some (other, to_judge second)) (Some (problem, to_prove most)) → ⊥
-aims_apart other problem second most same = let aims : to_judge second ≡ to_prove most = ap (λ (p : Text × Aim). p.1) (value_same same) in cc
+    by : (known : Known) {text : Text} → Done words known text → Puts old.out new.out text → SmallestPrinted known problem most old.out new.out
+    by known (judged wanted format other another text task script body also reads is keeps) put = absurd (judged_sought (one_aim words also asks))
+    by known (proved other text bound task body also reads smallest within is back) put =
+        let file : other ≡ problem = one_problem words also asks in
+        let same : bound ≡ most = bound_same (one_aim words also asks) in
+        subst (λ (k : Text × ℕ). SmallestPrinted known k.0 k.1 old.out new.out) (λ i. (file i, same i))
+        (record { task = task; body = body; reads = reads; smallest = smallest; within = within; text = text; puts = put; back = back })
+    by known (converted other text formulas also reads is back) put = absurd (sought_printed (one_aim words asks also))
 
 -- where a proof is sought, an answer with status 1 tells that there is none
 none_row : {words : List Text} {files later : Known} {output : Bool} {text : Text} {status : ℕ} → Answer words files later output text status →
-    (problem : Text) (most : ℕ) → most ≤ MOST_STEPS → words ≡ prove_words problem most → status ≡ 1 →
+    (problem : Text) (most : ℕ) → Asks words problem (to_prove most) → status ≡ 1 →
     (output ≡ true) × (text ≡ none_text most) × ((task : CitedTask) × ReadsTask files problem task × HasNoProof task most)
-none_row {words = words} (step_refused other second task script refusal names reads is) problem most few are e =
-    absurd (aims_apart other problem second most (sym names ∙ names_prove words problem most few are))
-none_row {words = words} {files = files} (none_up_to other bound task also small reads none) problem most few are e =
-    let same = prove_same words problem other most bound few small are also in
+none_row {words = words} (step_refused other second format task script refusal names reads is) problem most asks e = absurd (judged_sought (one_aim words names.1 asks))
+none_row {words = words} {files = files} (none_up_to other bound task also reads none) problem most asks e =
+    let file : other ≡ problem = one_problem words also asks in
+    let same : bound ≡ most = bound_same (one_aim words also asks) in
     let there : (task : CitedTask) × ReadsTask files problem task × HasNoProof task most =
-    subst (λ (k : Text × ℕ). (task : CitedTask) × ReadsTask files k.0 task × HasNoProof task k.1) (λ i. (same.0 i, same.1 i)) (task, reads, none) in
-    let text : none_text bound ≡ none_text most = ap none_text same.1 in
+    subst (λ (k : Text × ℕ). (task : CitedTask) × ReadsTask files k.0 task × HasNoProof task k.1) (λ i. (file i, same i)) (task, reads, none) in
+    let text : none_text bound ≡ none_text most = ap none_text same in
     (refl, text, there)
-none_row row problem most few are e = absurd (omega arith)
+none_row row problem most asks e = absurd (omega arith)
 
 -- where a proof is sought, status 1 tells that there is none within the bound
 pub none_of : {words : List Text} {files later : Known} {old new : Sinks} {status : ℕ} → Outcome words files later old new status →
     (problem : Text) (most : ℕ) → most ≤ MOST_STEPS → words ≡ prove_words problem most → status ≡ 1 →
     NoneTold files problem most old.out new.out
-none_of {old = old} {new = new} (answered output text status row put) problem most few are e =
-    let k = none_row row problem most few are e in
+none_of {words = words} {files = files} {old = old} {new = new} (answered output text status row put) problem most few are e =
+    let k = none_row row problem most (asks_prove words problem most few are) e in
     let here = subst (λ o. PutsTo o old new text) k.0 put in
-    record {
+    subst (λ f. NoneTold f problem most old.out new.out) (looks_prove words problem most files few are) (record {
       task = k.2.0;
       reads = k.2.1;
       none = k.2.2;
       puts = subst (λ t. Puts old.out new.out t) k.1 here.0;
-    }
+    })
 none_of outcome problem most few are e = absurd (omega arith)
 
--- words that are a check, or that name files, are a command
-check_some : (words : List Text) (problem proof : Text) → words ≡ check_words problem proof → command_of words ≡ None → ⊥
-check_some words problem proof are = subst (λ ws. command_of ws ≡ None → ⊥) (sym are) (λ none. cc)
-
--- words that are a conversion are a command
-convert_some : (words : List Text) (problem : Text) → words ≡ convert_words problem → command_of words ≡ None → ⊥
-convert_some words problem are = subst (λ ws. command_of ws ≡ None → ⊥) (sym are) (λ none. cc)
-
--- words by which a proof is sought are a command
-prove_some : (words : List Text) (problem : Text) (most : ℕ) → most ≤ MOST_STEPS → words ≡ prove_words problem most → command_of words ≡ None → ⊥
-prove_some words problem most few are = subst (λ ws. command_of ws ≡ None → ⊥) (sym are)
-    (λ none. let some = prove_command problem most few in cc)
-
--- words that are a proof's conversion are a command
-rewrite_some : (edition : Edition) (words : List Text) (problem proof : Text) → words ≡ rewrite_words edition problem proof → command_of words ≡ None → ⊥
-rewrite_some First words problem proof are = subst (λ ws. command_of ws ≡ None → ⊥) (sym are) (λ none. cc)
-rewrite_some Second words problem proof are = subst (λ ws. command_of ws ≡ None → ⊥) (sym are) (λ none. cc)
-
--- words that name files are a command
-pub names_some : (words : List Text) (names : Text × Aim) → names_in (command_of words) words ≡ Some names → command_of words ≡ None → ⊥
-names_some words names are none = let never = rw none at are in cc
+-- words that ask for something are a command
+pub asks_some : (words : List Text) (problem : Text) (aim : Aim) → Asks words problem aim → command_of words ≡ None → ⊥
+asks_some words problem aim asks none = let never = rw none at asks in cc
 
 -- words by which something is done are a command
 done_some : {words : List Text} {files : Known} {text : Text} → Done words files text → command_of words ≡ None → ⊥
-done_some {words = words} (accepted problem proof task script body are reads) none = check_some words problem proof are none
-done_some {words = words} (proved problem text most task body are few reads smallest within is back) none = prove_some words problem most few are none
-done_some {words = words} (converted problem text formulas are reads is back) none = convert_some words problem are none
-done_some {words = words} (rewritten edition problem proof text task script body are reads is back) none = rewrite_some edition words problem proof are none
+done_some {words = words} (judged wanted format problem second text task script body asks reads is keeps) none = asks_some words problem _ asks none
+done_some {words = words} (proved problem text most task body asks reads smallest within is back) none = asks_some words problem _ asks none
+done_some {words = words} (converted problem text formulas asks reads is back) none = asks_some words problem _ asks none
 
 -- words that ask for a file are a command
 asked_some : {words : List Text} {files : Known} {file : Text} → IsAsked words files file → command_of words ≡ None → ⊥
-asked_some {words = words} (of_problem problem names asked) none = names_some words _ names.1 none
-asked_some {words = words} (as_second problem task names reads) none = names_some words _ names none
+asked_some {words = words} (of_problem problem names asked) none = asks_some words problem _ names.1 none
+asked_some {words = words} (as_second problem format task names reads) none = asks_some words problem _ names.1 none
 
 -- words that are no command are answered with the usage text
 usage_row : {words : List Text} {files later : Known} {output : Bool} {text : Text} {status : ℕ} → Answer words files later output text status →
     command_of words ≡ None → status ≡ 64
 usage_row (done text row) none = absurd (done_some row none)
-usage_row {words = words} (step_refused problem second task script refusal names reads is) none = absurd (names_some words _ names none)
-usage_row {words = words} (none_up_to problem most task are few reads is) none = absurd (prove_some words problem most few are none)
-usage_row {words = words} (problem_refused problem file why names told inner) none = absurd (names_some words _ names.1 none)
-usage_row {words = words} (formula_refused problem formulas refusal names reads is) none = absurd (names_some words _ names.1 none)
-usage_row {words = words} (too_long problem second task names reads long) none = absurd (names_some words _ names none)
-usage_row {words = words} (proof_refused problem second task bytes refusal names reads is) none = absurd (names_some words _ names none)
+usage_row {words = words} (step_refused problem second format task script refusal names reads is) none = absurd (asks_some words problem _ names.1 none)
+usage_row {words = words} (none_up_to problem most task asks reads is) none = absurd (asks_some words problem _ asks none)
+usage_row {words = words} (problem_refused problem file why names told inner) none = absurd (asks_some words problem _ names.1 none)
+usage_row {words = words} (formula_refused problem formulas refusal names reads is) none = absurd (asks_some words problem _ names.1 none)
+usage_row {words = words} (too_long problem second format task names reads long) none = absurd (asks_some words problem _ names.1 none)
+usage_row {words = words} (proof_refused problem second format task bytes why names reads is) none = absurd (asks_some words problem _ names.1 none)
 usage_row (usage is) none = refl
 usage_row (fault file asked fails) none = absurd (asked_some asked none)
 
@@ -269,13 +310,133 @@ no_command (answered output text _ row put) none = inl (usage_row row none)
 no_command (broken output text wanted row breaks) none = inr refl
 no_command (out_of_memory some same) none = absurd (some none)
 
+-- a fault of the files at which a command looks is one of the program's
+rose_looked : (command : Option Command) (files later : Known) → Rose (looked_in command files).faults (looked_in command later).faults →
+    Rose files.faults later.faults
+rose_looked (Some (Demo k)) files later rose = absurd (omega arith)
+rose_looked (Some Check) files later rose = rose
+rose_looked (Some (Prove most)) files later rose = rose
+rose_looked (Some ExportIsar) files later rose = rose
+rose_looked (Some ExportEnglish) files later rose = rose
+rose_looked (Some ConvertProblem) files later rose = rose
+rose_looked (Some ConvertVernacular) files later rose = rose
+rose_looked (Some ConvertIsar) files later rose = rose
+rose_looked (Some ConvertVersion2) files later rose = rose
+rose_looked None files later rose = rose
+
+-- with status 66 the count of faults of the files rose
+pub fetch_rose : {words : List Text} {files later : Known} {old new : Sinks} {status : ℕ} → Outcome words files later old new status →
+    status ≡ 66 → Rose files.faults later.faults
+fetch_rose {words = words} {files = files} {later = later} (answered output text _ (fault file asked fails) put) e =
+    rose_looked (command_of words) files later fails.rose
+fetch_rose outcome e = absurd (omega arith)
+
+-- the status of an answer is one of six
+row_status : {words : List Text} {files later : Known} {output : Bool} {text : Text} {status : ℕ} → Answer words files later output text status →
+    IsAmong status (0 ∷ 1 ∷ 2 ∷ 3 ∷ 64 ∷ 66 ∷ [])
+row_status (done text row) = inl refl
+row_status (step_refused problem second format task script refusal names reads is) = inr (inl refl)
+row_status (none_up_to problem most task asks reads is) = inr (inl refl)
+row_status (problem_refused problem file why names told inner) = inr (inr (inl refl))
+row_status (formula_refused problem formulas refusal names reads is) = inr (inr (inl refl))
+row_status (too_long problem second format task names reads long) = inr (inr (inr (inl refl)))
+row_status (proof_refused problem second format task bytes refusal names reads is) = inr (inr (inr (inl refl)))
+row_status (usage is) = inr (inr (inr (inr (inl refl))))
+row_status (fault file asked fails) = inr (inr (inr (inr (inr (inl refl)))))
+
+-- these are statuses of a run, and neither 71 nor 74
+among_more : (status : ℕ) → IsAmong status (0 ∷ 1 ∷ 2 ∷ 3 ∷ 64 ∷ 66 ∷ []) → IsAmong status (0 ∷ 1 ∷ 2 ∷ 3 ∷ 64 ∷ 66 ∷ 71 ∷ 74 ∷ [])
+among_more status (inl e) = inl e
+among_more status (inr (inl e)) = inr (inl e)
+among_more status (inr (inr (inl e))) = inr (inr (inl e))
+among_more status (inr (inr (inr (inl e)))) = inr (inr (inr (inl e)))
+among_more status (inr (inr (inr (inr (inl e))))) = inr (inr (inr (inr (inl e))))
+among_more status (inr (inr (inr (inr (inr (inl e)))))) = inr (inr (inr (inr (inr (inl e)))))
+among_more status (inr (inr (inr (inr (inr (inr none)))))) = absurd none
+
+never_more : (status : ℕ) → IsAmong status (0 ∷ 1 ∷ 2 ∷ 3 ∷ 64 ∷ 66 ∷ []) → 70 ≤ status → ⊥
+never_more status (inl e) more = omega arith
+never_more status (inr (inl e)) more = omega arith
+never_more status (inr (inr (inl e))) more = omega arith
+never_more status (inr (inr (inr (inl e)))) more = omega arith
+never_more status (inr (inr (inr (inr (inl e))))) more = omega arith
+never_more status (inr (inr (inr (inr (inr (inl e)))))) more = omega arith
+never_more status (inr (inr (inr (inr (inr (inr none)))))) more = none
+
+-- there are no other statuses
+pub statuses_of : {words : List Text} {files later : Known} {old new : Sinks} {status : ℕ} → Outcome words files later old new status →
+    IsAmong status (0 ∷ 1 ∷ 2 ∷ 3 ∷ 64 ∷ 66 ∷ 71 ∷ 74 ∷ [])
+statuses_of (answered output text status row put) = among_more status (row_status row)
+statuses_of (broken output text wanted row breaks) = inr (inr (inr (inr (inr (inr (inr (inl refl)))))))
+statuses_of (out_of_memory some same) = inr (inr (inr (inr (inr (inr (inl refl))))))
+
+-- with status 74 the count of faults of a sink rose
+pub put_rose : {words : List Text} {files later : Known} {old new : Sinks} {status : ℕ} → Outcome words files later old new status →
+    status ≡ 74 → Rose old.out.faults new.out.faults ⊎ Rose old.errs.faults new.errs.faults
+put_rose (answered output text status row put) e = absurd (never_more status (row_status row) (omega arith))
+put_rose (broken true text wanted row breaks) e = inl breaks.0.rose
+put_rose (broken false text wanted row breaks) e = inr breaks.0.rose
+put_rose (out_of_memory some same) e = absurd (omega arith)
+
+-- with status 71 nothing is written
+pub nothing_put : {words : List Text} {files later : Known} {old new : Sinks} {status : ℕ} → Outcome words files later old new status →
+    status ≡ 71 → (new.out ≡ old.out) × (new.errs ≡ old.errs)
+nothing_put (answered output text status row put) e = absurd (never_more status (row_status row) (omega arith))
+nothing_put (broken output text wanted row breaks) e = absurd (omega arith)
+nothing_put (out_of_memory some same) e = (ap (λ (s : Sinks). s.out) same, ap (λ (s : Sinks). s.errs) same)
+
+-- where the program's files are not asked for, and one fails at which the command looks, there is no command
+unasked_rose : (command : Option Command) (files later : Known) → FilesUnasked command →
+    Rose (looked_in command files).faults (looked_in command later).faults → command ≡ None
+unasked_rose None files later unasked rose = refl
+unasked_rose (Some (Demo k)) files later unasked rose = absurd (omega arith)
+unasked_rose (Some Check) files later unasked rose = absurd unasked
+unasked_rose (Some (Prove most)) files later unasked rose = absurd unasked
+unasked_rose (Some ExportIsar) files later unasked rose = absurd unasked
+unasked_rose (Some ExportEnglish) files later unasked rose = absurd unasked
+unasked_rose (Some ConvertProblem) files later unasked rose = absurd unasked
+unasked_rose (Some ConvertVernacular) files later unasked rose = absurd unasked
+unasked_rose (Some ConvertIsar) files later unasked rose = absurd unasked
+unasked_rose (Some ConvertVersion2) files later unasked rose = absurd unasked
+
+-- where no file is asked for, the status is not 66
+pub unasked_fetch : {words : List Text} {files later : Known} {old new : Sinks} {status : ℕ} → Outcome words files later old new status →
+    AsksNoFile words → status ≡ 66 → ⊥
+unasked_fetch {words = words} {files = files} {later = later} (answered output text _ (fault file asked fails) put) unasked e =
+    asked_some asked (unasked_rose (command_of words) files later unasked fails.rose)
+unasked_fetch outcome unasked e = omega arith
+
+-- what is asked of files that a command does not look at
+pub unasked_files : (command : Command) {files later : Known} → FilesUnasked (Some command) → ((k : ℕ) → command ≢ Demo k) → later ≡ files
+unasked_files (Demo k) unasked other = absurd (other k refl)
+unasked_files Check unasked other = absurd unasked
+unasked_files (Prove most) unasked other = absurd unasked
+unasked_files ExportIsar unasked other = absurd unasked
+unasked_files ExportEnglish unasked other = absurd unasked
+unasked_files ConvertProblem unasked other = absurd unasked
+unasked_files ConvertVernacular unasked other = absurd unasked
+unasked_files ConvertIsar unasked other = absurd unasked
+unasked_files ConvertVersion2 unasked other = absurd unasked
+
+-- a command on files looks at those of the program
+pub looks_plain : (command : Command) (files : Known) → ((k : ℕ) → command ≢ Demo k) → looked_in (Some command) files ≡ files
+looks_plain (Demo k) files other = absurd (other k refl)
+looks_plain Check files other = refl
+looks_plain (Prove most) files other = refl
+looks_plain ExportIsar files other = refl
+looks_plain ExportEnglish files other = refl
+looks_plain ConvertProblem files other = refl
+looks_plain ConvertVernacular files other = refl
+looks_plain ConvertIsar files other = refl
+looks_plain ConvertVersion2 files other = refl
+
 -- a text was put to one sink, or a part of it
 abbrev pub IsPut : Stream → Stream → Text → ℕ → ℕ → Type 0
 IsPut old new text wanted status = ((status ≡ wanted) × Puts old new text) ⊎ ((status ≡ 74) × Breaks old new text)
 
 module _ {words : List Text} {files later : Known} (here new other : Stream) (text : Text) (wanted status : ℕ) where
   -- an answer was put to the output
-  pub to_output : Answer words files later true text wanted → IsPut here new text wanted status →
+  pub to_output : IsReply words files later true text wanted → IsPut here new text wanted status →
       Outcome words files later (sinks here other) (sinks new other) status
   to_output row (inl (e, put)) = subst (Outcome words files later (sinks here other) (sinks new other)) (sym e)
       (answered true text wanted row (put, refl))
@@ -283,7 +444,7 @@ module _ {words : List Text} {files later : Known} (here new other : Stream) (te
       (broken true text wanted row (part, refl))
 
   -- an answer was put to the errors
-  pub to_errors : Answer words files later false text wanted → IsPut here new text wanted status →
+  pub to_errors : IsReply words files later false text wanted → IsPut here new text wanted status →
       Outcome words files later (sinks other here) (sinks other new) status
   to_errors row (inl (e, put)) = subst (Outcome words files later (sinks other here) (sinks other new)) (sym e)
       (answered false text wanted row (put, refl))

@@ -1,9 +1,10 @@
 -- What is said where a command ends early is a row of the table of answers.
-use Rattle.std.specs.Prelude.{◌≢◌, IfSome}
+use Rattle.std.specs.Prelude.{◌≢◌, IfSome, codes}
 use Rattle.std.specs.Fmt.{decimal}
-use Rattle.std.proofs.Common.{ℕ, ◌≡◌, ◌≤◌, inl, inr, ◌⊎◌, ◌++◌, false, List, Option, Some, None, ap, sym, subst, refl, arith}
+use Rattle.std.proofs.Common.{ℕ, ◌≡◌, ◌≤◌, inl, inr, ◌⊎◌, ◌++◌, false, List, Option, Some, None, ap, sym, subst, refl, ◌∙◌, arith}
 use Rattle.text_core.specs.declared.limits.TheConstants.{MOST_FILE_BYTES}
 use Rattle.text_core.specs.Names.{Text}
+use Rattle.text_core.proofs.Laws.{value_same}
 use Rattle.logic_core.specs.declared.problem.Fof.{Fof}
 use Rattle.io_core.specs.Held.{Held}
 use Rattle.io_core.specs.Known.{Known}
@@ -18,61 +19,79 @@ use Rattle.coherent_form.specs.Tasks.{CitedTask, IsTaskFault}
 use Rattle.proof_text.specs.declared.refusal.ScriptRefusal.{ScriptRefusal}
 use Rattle.proof_text.specs.declared.refusal.ScriptRefusal.TheVariants as script
 use Rattle.proof_text.specs.Scripts.{ProofFault}
+use Rattle.isar_text.specs.declared.refusal.IsarRefusal.{IsarRefusal}
+use Rattle.isar_text.specs.declared.refusal.IsarRefusal.TheVariants as isar
+use Rattle.isar_text.specs.Scripts.{IsarFault}
 use Rattle.proof_text.specs.declared.part.Edition.{Edition}
 use Rattle.proof_text.specs.declared.part.Edition.TheVariants.{First, Second}
-use Rattle.larus_cli.specs.declared.judge.Wanted.{Wanted}
-use Rattle.larus_cli.specs.declared.judge.Wanted.TheVariants.{Size, Script}
+use Rattle.larus_cli.specs.declared.command.Wanted.TheVariants.{Size, Script}
+use Rattle.larus_cli.specs.declared.command.Wanted.TheVariants as wants
+use Rattle.larus_cli.specs.declared.command.Format.{Format}
+use Rattle.larus_cli.specs.declared.command.Format.TheVariants.{Vernacular, Isar}
+use Rattle.larus_cli.specs.declared.report.ProofWhy.TheVariants as reasons
 use Rattle.larus_cli.specs.declared.command.Command.TheVariants.{Prove}
 use Rattle.larus_cli.specs.declared.command.TheConstants.{MOST_STEPS}
-use Rattle.larus_cli.specs.Words.{command_of, search_within, names_in, names_of, check_words, prove_words, convert_words, rewrite_words}
-use Rattle.larus_cli.specs.Words.{to_print, to_prove, to_judge, NamesProblem, NamesTask, NamesBoth}
+use Rattle.larus_cli.specs.Words.{command_of, search_within, names_in, check_words, prove_words, export_words, isar_words, convert_words, rewrite_words}
+use Rattle.larus_cli.specs.Words.{Aim, to_print, to_prove, to_judge, Asks, NamesProblem, NamesTask, NamesBoth}
 use Rattle.larus_cli.proofs.Digits.{number_some}
 use Rattle.larus_cli.specs.Read.{ReadsProblem, ReadsTask, ReadsBytes}
-use Rattle.larus_cli.specs.Reports.{words_for}
 use Rattle.larus_cli.specs.Answers.{Answer, of_problem, as_second, problem_refused, formula_refused, too_long, proof_refused, fault}
-use Rattle.larus_cli.specs.Texts.{flat_text, formula_text, fault_text, too_long_text, script_text}
+use Rattle.larus_cli.specs.Texts.{flat_text, formula_text, fault_text, too_long_text, script_text, isar_text}
 
--- the files that the words of a command name
-pub names_check : (words : List Text) (problem proof : Text) → words ≡ check_words problem proof → NamesBoth words problem proof
-names_check words problem proof are = subst (λ ws. NamesBoth ws problem proof) (sym are) refl
+-- what the words of a check ask for
+pub asks_check : (words : List Text) (problem proof : Text) → words ≡ check_words problem proof → Asks words problem (to_judge Size Vernacular proof)
+asks_check words problem proof are = subst (λ ws. Asks ws problem (to_judge Size Vernacular proof)) (sym are) refl
 
--- the files that the words of a proof's conversion name
-pub names_rewrite : (edition : Edition) (words : List Text) (problem proof : Text) → words ≡ rewrite_words edition problem proof →
-    NamesBoth words problem proof
-names_rewrite First words problem proof are = subst (λ ws. NamesBoth ws problem proof) (sym are) refl
-names_rewrite Second words problem proof are = subst (λ ws. NamesBoth ws problem proof) (sym are) refl
+-- what the words of a proof's conversion ask for
+pub asks_rewrite : (edition : Edition) (words : List Text) (problem proof : Text) → words ≡ rewrite_words edition problem proof →
+    Asks words problem (to_judge (Script edition) Vernacular proof)
+asks_rewrite First words problem proof are = subst (λ ws. Asks ws problem (to_judge (Script First) Vernacular proof)) (sym are) refl
+asks_rewrite Second words problem proof are = subst (λ ws. Asks ws problem (to_judge (Script Second) Vernacular proof)) (sym are) refl
+
+-- what the words of an export in Isar ask for
+pub asks_export : (words : List Text) (problem proof : Text) → words ≡ export_words (codes "isar") problem proof →
+    Asks words problem (to_judge wants.Isar Vernacular proof)
+asks_export words problem proof are = subst (λ ws. Asks ws problem (to_judge wants.Isar Vernacular proof)) (sym are) refl
+
+-- what the words of an Isar text's conversion ask for
+pub asks_isar : (words : List Text) (problem text : Text) → words ≡ isar_words problem text →
+    Asks words problem (to_judge (Script First) Isar text)
+asks_isar words problem text are = subst (λ ws. Asks ws problem (to_judge (Script First) Isar text)) (sym are) refl
+
+-- what the words of a problem's conversion ask for
+pub asks_convert : (words : List Text) (problem : Text) → words ≡ convert_words problem → Asks words problem to_print
+asks_convert words problem are = subst (λ ws. Asks ws problem to_print) (sym are) refl
 
 -- the words by which a proof within a bound is sought are that command
 pub prove_command : (problem : Text) (most : ℕ) → most ≤ MOST_STEPS → command_of (prove_words problem most) ≡ Some (Prove most)
 prove_command problem most few = ap search_within (number_some MOST_STEPS most (decimal most) (omega arith) few refl)
 
--- the file that those words name
-pub names_prove : (words : List Text) (problem : Text) (most : ℕ) → most ≤ MOST_STEPS → words ≡ prove_words problem most →
-    names_of words ≡ Some (problem, to_prove most)
-names_prove words problem most few are = subst (λ ws. names_of ws ≡ Some (problem, to_prove most)) (sym are)
+-- what those words ask for
+pub asks_prove : (words : List Text) (problem : Text) (most : ℕ) → most ≤ MOST_STEPS → words ≡ prove_words problem most →
+    Asks words problem (to_prove most)
+asks_prove words problem most few are = subst (λ ws. Asks ws problem (to_prove most)) (sym are)
     (subst (λ command. names_in command (prove_words problem most) ≡ Some (problem, to_prove most)) (sym (prove_command problem most few)) refl)
 
--- those words want the problem's task
-pub task_prove : (words : List Text) (problem : Text) (most : ℕ) → most ≤ MOST_STEPS → words ≡ prove_words problem most → NamesTask words problem
-task_prove words problem most few are = (to_prove most, names_prove words problem most few are, λ e. cc)
+module _ (words : List Text) {problem other : Text} {aim another : Aim} (asks : Asks words problem aim) (also : Asks words other another) where
+  -- the words ask it of one problem
+  pub one_problem : problem ≡ other
+  one_problem = ap (λ (n : Text × Aim). n.0) (value_same (sym asks ∙ also))
+
+  -- they ask one thing
+  pub one_aim : aim ≡ another
+  one_aim = ap (λ (n : Text × Aim). n.1) (value_same (sym asks ∙ also))
+
+-- words that seek a proof want the problem's task
+pub task_prove : (words : List Text) (problem : Text) (most : ℕ) → Asks words problem (to_prove most) → NamesTask words problem
+task_prove words problem most asks = (to_prove most, asks, λ e. cc)
 
 -- words that name a second file want the problem's task
-pub task_both : (words : List Text) (problem second : Text) → NamesBoth words problem second → NamesTask words problem
-task_both words problem second names = (to_judge second, names, λ e. cc)
+pub task_both : (words : List Text) (problem : Text) (format : Format) (second : Text) → NamesBoth words problem format second → NamesTask words problem
+task_both words problem format second names = (to_judge names.0 format second, names.1, λ e. cc)
 
 -- words that want a problem's task name the problem
 pub problem_task : (words : List Text) (problem : Text) → NamesTask words problem → NamesProblem words problem
 problem_task words problem names = (names.0, names.1)
-
--- the files that the words name that want something of a proof
-pub names_for : (wanted : Wanted) (words : List Text) (problem proof : Text) → words ≡ words_for wanted problem proof →
-    NamesBoth words problem proof
-names_for Size words problem proof are = names_check words problem proof are
-names_for (Script edition) words problem proof are = names_rewrite edition words problem proof are
-
--- the file that the words of a conversion name
-pub names_convert : (words : List Text) (problem : Text) → words ≡ convert_words problem → NamesProblem words problem
-names_convert words problem are = subst (λ ws. NamesProblem ws problem) (sym are) (to_print, refl)
 
 -- a refusal that does not come from outside decides the walk
 refused_told : (held : Option Held) (problem file : Text) (why : FlatWhy) → ¬ (IsOutside why) →
@@ -123,17 +142,17 @@ fails_behind a b = record {
 }
 
 -- a second file that could not be fetched
-pub second_fault : (words : List Text) (before middle later : Known) (problem name : Text) (task : CitedTask) →
-    Grows before middle → NamesBoth words problem name → ReadsTask before problem task → Fails middle later name →
+pub second_fault : (words : List Text) (before middle later : Known) (problem : Text) (format : Format) (name : Text) (task : CitedTask) →
+    Grows before middle → NamesBoth words problem format name → ReadsTask before problem task → Fails middle later name →
     Answer words before later false (name ++ fault_text) 66
-second_fault words before middle later problem name task grows names reads fails =
-    fault name (as_second problem task names reads) (fails_behind grows fails)
+second_fault words before middle later problem format name task grows names reads fails =
+    fault name (as_second problem format task names reads) (fails_behind grows fails)
 
 -- a second file that has too many bytes
-pub second_too_long : (words : List Text) (before middle later : Known) (problem name : Text) (task : CitedTask) →
-    Grows before middle → NamesBoth words problem name → ReadsTask before problem task →
+pub second_too_long : (words : List Text) (before middle later : Known) (problem : Text) (format : Format) (name : Text) (task : CitedTask) →
+    Grows before middle → NamesBoth words problem format name → ReadsTask before problem task →
     IsTooLong MOST_FILE_BYTES name middle later → Answer words before later false (name ++ too_long_text) 3
-second_too_long words before middle later problem name task grows names reads long = too_long problem name task names reads
+second_too_long words before middle later problem format name task grows names reads long = too_long problem name format task names reads
     (subst (λ held. IfSome held (λ h. IsLong h name MOST_FILE_BYTES)) grows.held long.longer)
 
 -- what a later look at the files tells of them was so before
@@ -145,7 +164,16 @@ holds_before before middle name bytes grows holds =
 
 -- bytes of a second file that spell no script
 pub proof_told : (words : List Text) (files later : Known) (problem second : Text) (task : CitedTask) (bytes : Text) (refusal : ScriptRefusal) →
-    NamesBoth words problem second → ReadsBytes files problem second task bytes → refusal ≢ script.Memory →
+    NamesBoth words problem Vernacular second → ReadsBytes files problem second task bytes → refusal ≢ script.Memory →
     (refusal ≡ script.Memory) ⊎ ProofFault bytes refusal → Answer words files later false (second ++ script_text refusal) 3
 proof_told words files later problem second task bytes refusal names reads some (inl e) = absurd (some e)
-proof_told words files later problem second task bytes refusal names reads some (inr is) = proof_refused problem second task bytes refusal names reads is
+proof_told words files later problem second task bytes refusal names reads some (inr is) =
+    proof_refused problem second Vernacular task bytes (reasons.Script refusal) names reads is
+
+-- bytes of a second file that are no Isar text of the task
+pub isar_told : (words : List Text) (files later : Known) (problem second : Text) (task : CitedTask) (bytes : Text) (refusal : IsarRefusal) →
+    NamesBoth words problem Isar second → ReadsBytes files problem second task bytes → refusal ≢ isar.Memory →
+    (refusal ≡ isar.Memory) ⊎ IsarFault task bytes refusal → Answer words files later false (second ++ isar_text refusal) 3
+isar_told words files later problem second task bytes refusal names reads some (inl e) = absurd (some e)
+isar_told words files later problem second task bytes refusal names reads some (inr is) =
+    proof_refused problem second Isar task bytes (reasons.Isar refusal) names reads is

@@ -1,5 +1,6 @@
 pub mod Numerals
 pub mod Words
+pub mod OwnFiles
 pub mod Texts
 pub mod Follows
 pub mod Read
@@ -10,3 +11,4 @@ pub mod Sought
 pub mod Answers
 pub mod Reports
 pub mod Outcome
+pub mod Complete

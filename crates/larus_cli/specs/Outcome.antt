@@ -8,7 +8,8 @@ use Rattle.coherent_form.specs.Tasks.{CitedTask}
 use Rattle.proof_text.specs.declared.part.Edition.TheVariants.{First}
 use Rattle.proof_text.specs.Canonical.{script_text}
 use Rattle.proof_text.specs.ScriptOf.{script_of}
-use Rattle.larus_cli.specs.Words.{command_of, prove_words}
+use Rattle.larus_cli.specs.Words.{command_of, to_prove, Asks}
+use Rattle.larus_cli.specs.OwnFiles.{looked_at}
 use Rattle.larus_cli.specs.Smallest.{IsSmallest}
 use Rattle.larus_cli.specs.Answers.{Answer}
 
@@ -30,14 +31,19 @@ abbrev pub BreaksAt : Bool → Sinks → Sinks → Text → Type 0
 BreaksAt true old new text = Breaks old.out new.out text × (new.errs ≡ old.errs)
 BreaksAt false old new text = Breaks old.errs new.errs text × (new.out ≡ old.out)
 
+-- the answer, by the files at which the words look
+abbrev pub IsReply : List Text → Known → Known → Bool → Text → ℕ → Type 0
+IsReply words files later output text status =
+    Answer words (looked_at words files) (looked_at words later) output text status
+
 pub data Outcome (words : List Text) (files later : Known) (old new : Sinks) : ℕ → Type 0 where
   -- an answer was put whole
   answered : (output : Bool) (text : Text) (status : ℕ) →
-      Answer words files later output text status → PutsTo output old new text →
+      IsReply words files later output text status → PutsTo output old new text →
       Outcome words files later old new status
   -- 74: the sink of an answer failed
   broken : (output : Bool) (text : Text) (status : ℕ) →
-      Answer words files later output text status → BreaksAt output old new text →
+      IsReply words files later output text status → BreaksAt output old new text →
       Outcome words files later old new 74
   -- 71: want of memory; nothing was written
   out_of_memory : command_of words ≢ None → new ≡ old → Outcome words files later old new 71
@@ -53,7 +59,7 @@ pub record IsSettled (status : ℕ) : Type 0 where
 pub data Alike (words : List Text) : Text → Text → Type 0 where
   one_text : (text : Text) → Alike words text text
   two_smallest : (problem : Text) (most : ℕ) (task : CitedTask) (body other : Body) →
-      words ≡ prove_words problem most → IsSmallest task body → IsSmallest task other →
+      Asks words problem (to_prove most) → IsSmallest task body → IsSmallest task other →
       Alike words (script_text (script_of First task body)) (script_text (script_of First task other))
 
 -- two runs with the same words put alike texts to the same sink, with one status

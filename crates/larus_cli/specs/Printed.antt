@@ -11,10 +11,15 @@ use Rattle.tptp_grammar.specs.Spells.{AreItemsOf}
 use Rattle.include_flat.specs.Flattened.{IsFlat}
 use Rattle.coherent_form.specs.Tasks.{CitedTask}
 use Rattle.proof_text.specs.declared.part.Edition.{Edition}
+use Rattle.proof_text.specs.Canonical.{script_text}
 use Rattle.proof_text.specs.Proper.{version_number}
+use Rattle.proof_text.specs.ScriptOf.{script_of}
 use Rattle.proof_text.specs.Scripts.{IsScriptOf}
 use Rattle.proof_text.specs.Values.{Written}
 use Rattle.proof_checker.specs.Accepted.{IsAcceptedAs}
+use Rattle.isar_text.specs.Scripts.{IsIsarOf}
+use Rattle.larus_cli.specs.declared.command.Format.{Format}
+use Rattle.larus_cli.specs.declared.command.Format.TheVariants.{Vernacular}
 use Rattle.larus_cli.specs.Read.{ReadsProof}
 
 -- the text has tokens, which are a text of these formulas
@@ -36,14 +41,32 @@ pub record ReadsBackAs (edition : Edition) (text : Text) (task : CitedTask) (bod
   pub version : script.version ≡ version_number edition
   pub accepted : IsAcceptedAs task script body
 
--- what was put is a text that reads back as a script of this version, which is accepted as the body
--- that the script of the second file is accepted as
-pub record ProofPrinted (edition : Edition) (files : Known) (problem proof : Text)
-    (old new : Stream) : Type 0 where
+-- what was put is the canonical text, of this version, of the body that the script of the second
+-- file, read in this format, is accepted as; it reads back as a script that is accepted as the same
+pub record ProofPrinted (format : Format) (edition : Edition) (files : Known)
+    (problem proof : Text) (old new : Stream) : Type 0 where
   pub task : CitedTask
   pub script : Written
   pub body : Body
-  pub reads : ReadsProof files problem proof task script body
+  pub reads : ReadsProof format files problem proof task script body
   pub text : Text
   pub puts : Puts old new text
+  pub text_is : text ≡ script_text (script_of edition task body)
   pub back : ReadsBackAs edition text task body
+
+-- the text is one in Isar of a script that is accepted as the body
+pub record ReadsBackInIsar (text : Text) (task : CitedTask) (body : Body) : Type 0 where
+  pub script : Written
+  pub spells : IsIsarOf task text script
+  pub accepted : IsAcceptedAs task script body
+
+-- what was put is a text in Isar of a script that is accepted as the body that the script of the
+-- second file is accepted as
+pub record IsarPrinted (files : Known) (problem proof : Text) (old new : Stream) : Type 0 where
+  pub task : CitedTask
+  pub script : Written
+  pub body : Body
+  pub reads : ReadsProof Vernacular files problem proof task script body
+  pub text : Text
+  pub puts : Puts old new text
+  pub back : ReadsBackInIsar text task body

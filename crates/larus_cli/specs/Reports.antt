@@ -2,25 +2,15 @@
 use Rattle.std.specs.Prelude.{◌++◌, true, false, List, Result, Ok, Err}
 use Rattle.text_core.specs.Names.{Text}
 use Rattle.io_core.specs.Known.{Known}
-use Rattle.larus_cli.specs.declared.report.ProofWhy.{ProofWhy}
-use Rattle.larus_cli.specs.declared.report.ProofWhy.TheVariants as proof
 use Rattle.larus_cli.specs.declared.report.Report.{Report}
-use Rattle.larus_cli.specs.declared.report.Report.TheVariants.{Accepted, Refused, Converted, NoneUpTo, FileFault}
+use Rattle.larus_cli.specs.declared.report.Report.TheVariants.{Accepted, Refused, Converted, NoneUpTo, Demo, FileFault}
 use Rattle.larus_cli.specs.declared.report.Report.TheVariants.{ProblemFile, ProblemFormula, ProofFile}
 use Rattle.larus_cli.specs.declared.reply.Reply.{Reply}
 use Rattle.larus_cli.specs.declared.reading.Halt.{Halt}
 use Rattle.larus_cli.specs.declared.reading.Halt.TheVariants as halt
-use Rattle.larus_cli.specs.declared.judge.Wanted.{Wanted}
-use Rattle.larus_cli.specs.declared.judge.Wanted.TheVariants.{Size, Script}
-use Rattle.larus_cli.specs.Words.{check_words, rewrite_words}
-use Rattle.larus_cli.specs.Texts.{fault_text, too_long_text, flat_text}
-use Rattle.larus_cli.specs.Texts.{formula_text, script_text, step_text, accepted_text, none_text}
+use Rattle.larus_cli.specs.Texts.{fault_text, flat_text}
+use Rattle.larus_cli.specs.Texts.{formula_text, proof_text, step_text, accepted_text, none_text, demo_text}
 use Rattle.larus_cli.specs.Answers.{Answer}
-
--- what is behind the name of a proof's file
-abbrev pub proof_text : ProofWhy → Text
-proof_text proof.FileTooLong = too_long_text
-proof_text (proof.Script refusal) = script_text refusal
 
 -- what is printed for a report, where and with which status
 abbrev pub reply_of : Report → Reply
@@ -28,6 +18,8 @@ reply_of (Accepted size) = record { text = accepted_text size; is_output = true;
 reply_of (Refused refusal) = record { text = step_text refusal; is_output = true; status = 1 }
 reply_of (Converted text) = record { text = text; is_output = true; status = 0 }
 reply_of (NoneUpTo most) = record { text = none_text most; is_output = true; status = 1 }
+reply_of (Demo k problem proof size) =
+    record { text = demo_text k problem proof size; is_output = true; status = 0 }
 reply_of (FileFault file) = record { text = file ++ fault_text; is_output = false; status = 66 }
 reply_of (ProblemFile refusal) =
     record { text = refusal.file ++ flat_text refusal.why; is_output = false; status = 2 }
@@ -50,8 +42,3 @@ Halts words files later halt.Memory = Unit {0}
 abbrev pub Decides : List Text → Known → Known → Result Report Halt → Type 0
 Decides words files later (Ok report) = IsAnswer words files later report
 Decides words files later (Err ending) = Halts words files later ending
-
--- the words that want this of an accepted proof
-abbrev pub words_for : Wanted → Text → Text → List Text
-words_for Size problem proof = check_words problem proof
-words_for (Script edition) problem proof = rewrite_words edition problem proof

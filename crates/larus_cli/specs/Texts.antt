@@ -13,11 +13,15 @@ use Rattle.coherent_form.specs.declared.task_refusal.TaskWhy.TheVariants as task
 use Rattle.coherent_form.specs.declared.task_refusal.TaskRefusal.{TaskRefusal}
 use Rattle.proof_text.specs.declared.refusal.ScriptRefusal.{ScriptRefusal}
 use Rattle.proof_text.specs.declared.refusal.ScriptRefusal.TheVariants as script
+use Rattle.isar_text.specs.declared.refusal.IsarRefusal.{IsarRefusal}
+use Rattle.isar_text.specs.declared.refusal.IsarRefusal.TheVariants as isar
 use Rattle.proof_checker.specs.declared.refusal.Rule.{Rule}
 use Rattle.proof_checker.specs.declared.refusal.Rule.TheVariants as rule
 use Rattle.proof_checker.specs.declared.refusal.Why.{Why}
 use Rattle.proof_checker.specs.declared.refusal.Why.TheVariants as why
 use Rattle.proof_checker.specs.declared.refusal.StepRefusal.{StepRefusal}
+use Rattle.larus_cli.specs.declared.report.ProofWhy.{ProofWhy}
+use Rattle.larus_cli.specs.declared.report.ProofWhy.TheVariants as second
 
 -- a line feed (10) behind a text
 abbrev pub ended : Text → Text
@@ -86,6 +90,21 @@ script_text (script.ProofTooLarge offset) = at_offset offset (codes ": 22 ProofT
 script_text (script.CasesTooDeep offset) = at_offset offset (codes ": 23 CasesTooDeep")
 script_text script.Memory = []
 
+-- what is behind the name of a file whose bytes are no Isar text of the task; nothing is told of
+-- want of memory
+abbrev pub isar_text : IsarRefusal → Text
+isar_text (isar.Head offset) = at_offset offset (codes ": 43 IsarHead")
+isar_text (isar.Syntax offset) = at_offset offset (codes ": 42 IsarSyntax")
+isar_text (isar.TooLarge offset) = at_offset offset (codes ": 22 ProofTooLarge")
+isar_text (isar.TooDeep offset) = at_offset offset (codes ": 23 CasesTooDeep")
+isar_text isar.Memory = []
+
+-- what is behind the name of a second file that is refused
+abbrev pub proof_text : ProofWhy → Text
+proof_text second.FileTooLong = too_long_text
+proof_text (second.Script refusal) = script_text refusal
+proof_text (second.Isar refusal) = isar_text refusal
+
 -- the word of a rule
 abbrev pub rule_text : Rule → Text
 rule_text rule.Take = codes "take"
@@ -126,6 +145,12 @@ accepted_text size = codes "accepted " ++ ended (decimal size)
 abbrev pub none_text : ℕ → Text
 none_text most = codes "none up to " ++ ended (decimal most)
 
+-- the number of implications, the lengths of the made problem and the made proof, and the size
+abbrev pub demo_text : ℕ → ℕ → ℕ → ℕ → Text
+demo_text k problem proof size = codes "demo " ++ decimal k ++ codes ": problem " ++
+    decimal problem ++ codes " bytes, proof " ++ decimal proof ++ codes " bytes, accepted " ++
+    ended (decimal size)
+
 -- the number of a step that is refused, its rule, and why
 abbrev pub step_text : StepRefusal → Text
 step_text refusal = codes "refused " ++ decimal refusal.step ++ codes " " ++
@@ -134,5 +159,6 @@ step_text refusal = codes "refused " ++ decimal refusal.step ++ codes " " ++
 abbrev pub usage_text : Text
 usage_text = ended (codes "44 Usage") ++ ended (codes "check PROBLEM PROOF") ++
     ended (codes "prove PROBLEM MOST") ++
+    ended (codes "export isar PROBLEM PROOF") ++ ended (codes "export english PROBLEM PROOF") ++
     ended (codes "convert problem PROBLEM") ++ ended (codes "convert vernacular PROBLEM PROOF") ++
-    ended (codes "convert version2 PROBLEM PROOF")
+    ended (codes "convert isar PROBLEM ISARTEXT") ++ ended (codes "demo K") ++ ended (codes "convert version2 PROBLEM PROOF")

@@ -1,11 +1,15 @@
 ghost use Rattle.std.specs.Prelude.{◌≡◌, ◌≤◌, if◌then◌else◌, Some, None, codes};
 ghost use Rattle.std.specs.Str.{bytes_eq};
-ghost use Rattle.proof_text.specs.declared.part.Edition.{Edition};
+ghost use Rattle.problem_suite.specs.declared.made.TheConstants.{MOST_IMPLICATIONS};
+ghost use Rattle.larus_cli.specs.declared.command.Format.{Format};
+ghost use Rattle.larus_cli.specs.declared.command.Wanted.{Wanted};
 ghost use Rattle.larus_cli.specs.Numerals.{number_of};
-ghost use Rattle.larus_cli.specs.Words.{command_of, conversion_of, search_within, check_words, prove_words, convert_words, rewriting, rewrite_words};
+ghost use Rattle.larus_cli.specs.Words.{command_of, export_of, conversion_of, search_within, demo_within, wanted_of, format_of, to_print, to_prove, to_judge, Asks};
 
 use crate::number::read_number;
 use logic_core::Bytes;
+use problem_suite::MOST_IMPLICATIONS;
+use proof_text::Edition;
 
 /// The greatest bound on the rule applications of a proof that is sought.
 pub const MOST_STEPS: u32 = 200;
@@ -18,15 +22,50 @@ pub enum Command {
     /// `prove PROBLEM MOST`: a proof of the problem with the fewest rule applications of all, where
     /// one has at most so many, from 0 to `MOST_STEPS`.
     Prove(u32),
+    /// `export isar PROBLEM PROOF`: the proof, where it is accepted, as an Isar text.
+    ExportIsar,
+    /// `export english PROBLEM PROOF`: the proof, where it is accepted, as an English text.
+    ExportEnglish,
     /// `convert problem PROBLEM`: the problem with the files that it includes, in its canonical
     /// text.
     ConvertProblem,
     /// `convert vernacular PROBLEM PROOF`: the proof, where it is accepted, in the canonical text of
     /// version 1.
     ConvertVernacular,
+    /// `convert isar PROBLEM ISARTEXT`: the proof in an Isar text, where it is accepted, in the
+    /// canonical text of version 1.
+    ConvertIsar,
     /// `convert version2 PROBLEM PROOF`: the proof, where it is accepted, in the canonical text of
     /// version 2.
     ConvertVersion2,
+    /// `demo K`: whether the made proof for so many implications, from 1 to `MOST_IMPLICATIONS`, is
+    /// accepted as a proof of the made problem.
+    Demo(u32),
+}
+
+/// How a second file is read.
+#[derive(Clone, Copy, Debug)]
+pub enum Format {
+    /// As a proof text of the vernacular.
+    Vernacular,
+    /// As an Isar text of the problem's task.
+    Isar,
+}
+
+/// What is wanted of a proof that is accepted.
+#[derive(Clone, Copy, Debug)]
+pub enum Wanted {
+    /// Its size.
+    Size,
+    /// The script of this version that stands for it.
+    Script(Edition),
+    /// Its Isar text.
+    Isar,
+    /// Its English text.
+    English,
+    /// Its size, as that of the made proof for so many implications, with the lengths of the made
+    /// problem and of the made proof in bytes.
+    Demo { k: u32, problem: u32, proof: u32 },
 }
 
 /// The command that the words after the program's name are, and `None` exactly where they are no
@@ -35,6 +74,13 @@ pub fn read_words(words: &[Bytes]) -> Option<Command>
     ensures { result ≡ command_of words.now }
 {
     match words {
+        [first, second] => {
+            if first.as_slice() == b"demo".as_slice() {
+                demonstration(second.as_slice())
+            } else {
+                None
+            }
+        }
         [first, second, third] => {
             if first.as_slice() == b"check".as_slice() {
                 Some(Command::Check)
@@ -47,7 +93,9 @@ pub fn read_words(words: &[Bytes]) -> Option<Command>
             }
         }
         [first, second, _, _] => {
-            if first.as_slice() == b"convert".as_slice() {
+            if first.as_slice() == b"export".as_slice() {
+                export(second.as_slice())
+            } else if first.as_slice() == b"convert".as_slice() {
                 proof_conversion(second.as_slice())
             } else {
                 None
@@ -67,6 +115,17 @@ fn search(word: &[u8]) -> Option<Command>
     }
 }
 
+/// The command that demonstrates so many implications as the word tells, one or more.
+fn demonstration(word: &[u8]) -> Option<Command>
+    ensures { result ≡ demo_within (number_of MOST_IMPLICATIONS word.now) }
+{
+    match read_number(word, MOST_IMPLICATIONS) {
+        Some(0) => None,
+        Some(k) => Some(Command::Demo(k)),
+        None => None,
+    }
+}
+
 /// The command that converts a problem, where the word names it.
 fn conversion(word: &[u8]) -> Option<Command>
     ensures { result ≡ (if bytes_eq word.now (codes "problem")
@@ -79,12 +138,27 @@ fn conversion(word: &[u8]) -> Option<Command>
     }
 }
 
-/// The command that converts a proof to the version that the word names.
+/// The command that exports a proof in the form that the word names.
+fn export(word: &[u8]) -> Option<Command>
+    ensures { result ≡ export_of word.now }
+{
+    if word == b"isar".as_slice() {
+        Some(Command::ExportIsar)
+    } else if word == b"english".as_slice() {
+        Some(Command::ExportEnglish)
+    } else {
+        None
+    }
+}
+
+/// The command that converts a proof as the word names it.
 fn proof_conversion(word: &[u8]) -> Option<Command>
     ensures { result ≡ conversion_of word.now }
 {
     if word == b"vernacular".as_slice() {
         Some(Command::ConvertVernacular)
+    } else if word == b"isar".as_slice() {
+        Some(Command::ConvertIsar)
     } else if word == b"version2".as_slice() {
         Some(Command::ConvertVersion2)
     } else {
@@ -92,13 +166,17 @@ fn proof_conversion(word: &[u8]) -> Option<Command>
     }
 }
 
-/// The names of the problem's and the proof's file in the words of a check.
-pub(crate) fn check_names(words: &[Bytes]) -> (&[u8], &[u8])
-    requires { command_of words.now ≡ Some Command.Check }
-    ensures { words.now ≡ check_words result.0.now result.1.now }
+/// The names of the problem's and the second file in words that want something of the proof in it.
+/// It is read as the words say.
+pub(crate) fn file_names(words: &[Bytes]) -> (&[u8], &[u8])
+    requires { (wanted : Wanted) × (wanted_of words.now ≡ Some wanted) }
+    ensures { (wanted : Wanted) (format : Format) → wanted_of words.now ≡ Some wanted
+        → format_of words.now ≡ format
+        → Asks words.now result.0.now (to_judge wanted format result.1.now) }
 {
     match words {
-        [_, problem, proof] => (problem.as_slice(), proof.as_slice()),
+        [_, problem, second] => (problem.as_slice(), second.as_slice()),
+        [_, _, problem, second] => (problem.as_slice(), second.as_slice()),
         _ => unreachable!(),
     }
 }
@@ -106,7 +184,7 @@ pub(crate) fn check_names(words: &[Bytes]) -> (&[u8], &[u8])
 /// The name of the problem's file in the words that seek a proof within a bound.
 pub(crate) fn prove_name(words: &[Bytes], most: u32) -> &[u8]
     requires { command_of words.now ≡ Some (Command.Prove most) }
-    ensures words { words.now ≡ prove_words result.now most }
+    ensures asks { Asks words.now result.now (to_prove most) }
     ensures few { most ≤ MOST_STEPS }
 {
     match words {
@@ -118,22 +196,10 @@ pub(crate) fn prove_name(words: &[Bytes], most: u32) -> &[u8]
 /// The name of the problem's file in the words of its conversion.
 pub(crate) fn convert_name(words: &[Bytes]) -> &[u8]
     requires { command_of words.now ≡ Some Command.ConvertProblem }
-    ensures { words.now ≡ convert_words result.now }
+    ensures { Asks words.now result.now to_print }
 {
     match words {
         [_, _, problem] => problem.as_slice(),
-        _ => unreachable!(),
-    }
-}
-
-/// The names of the problem's and the proof's file in the words of the proof's conversion.
-pub(crate) fn rewrite_names(words: &[Bytes]) -> (&[u8], &[u8])
-    requires { (edition : Edition) × (command_of words.now ≡ Some (rewriting edition)) }
-    ensures { (edition : Edition) → command_of words.now ≡ Some (rewriting edition)
-        → words.now ≡ rewrite_words edition result.0.now result.1.now }
-{
-    match words {
-        [_, _, problem, proof] => (problem.as_slice(), proof.as_slice()),
         _ => unreachable!(),
     }
 }

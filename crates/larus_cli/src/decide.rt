@@ -1,11 +1,13 @@
-ghost use Rattle.std.specs.Prelude.{◌≡◌, Some, IfOk};
+ghost use Rattle.std.specs.Prelude.{ℕ, ◌≡◌, ◌≢◌, Some, IfOk};
 ghost use Rattle.io_core.specs.Fetched.{Grows};
-ghost use Rattle.larus_cli.specs.Words.{command_of, rewriting};
-ghost use Rattle.larus_cli.specs.Answers.{Answer};
+ghost use Rattle.larus_cli.specs.Words.{command_of, wanted_of, format_of};
+ghost use Rattle.larus_cli.specs.OwnFiles.{looked_at, AsksNoFile};
+ghost use Rattle.larus_cli.specs.Outcome.{IsReply};
 ghost use Rattle.larus_cli.specs.Reports.{Decides};
 
-use crate::command::{Command, check_names, convert_name, prove_name, rewrite_names};
-use crate::judge::{Wanted, judge};
+use crate::command::{Command, Format, Wanted, convert_name, file_names, prove_name};
+use crate::demo::demonstrate;
+use crate::judge::judge;
 use crate::reading::{Halt, read_problem, read_task};
 use crate::reply::{Reply, reply_of};
 use crate::report::Report;
@@ -16,14 +18,22 @@ use proof_text::Edition;
 use std::alloc::Global;
 use tptp_printer::print_problem;
 
-/// What there is to say of a proof that is to be checked.
-fn check<F: Files>(alloc: Global, words: &[Bytes], files: &mut F) -> Result<Report, Halt>
-    requires { command_of words.now ≡ Some Command.Check }
+/// What there is to say of the proof in a second file, read in this format, of which this is
+/// wanted.
+fn judge_files<F: Files>(
+    alloc: Global,
+    words: &[Bytes],
+    wanted: Wanted,
+    format: Format,
+    files: &mut F,
+) -> Result<Report, Halt>
+    requires wants { wanted_of words.now ≡ Some wanted }
+    requires reads { format_of words.now ≡ format }
     ensures decides { Decides words.now (F.known files.old) (F.known files.new) result }
     ensures grows { Grows (F.known files.old) (F.known files.new) }
 {
-    let (problem, proof) = check_names(words);
-    judge(alloc, Wanted::Size, files, problem, proof)
+    let (problem, second) = file_names(words);
+    judge(alloc, wanted, format, files, problem, second)
 }
 
 /// What there is to say of a problem of which a proof within a bound is sought.
@@ -37,21 +47,6 @@ fn prove<F: Files>(alloc: Global, words: &[Bytes], most: u32, files: &mut F) -> 
     prove_task(alloc, &task, most)
 }
 
-/// What there is to say of a proof that is to be printed in this version.
-fn convert_proof<F: Files>(
-    alloc: Global,
-    words: &[Bytes],
-    edition: Edition,
-    files: &mut F,
-) -> Result<Report, Halt>
-    requires { command_of words.now ≡ Some (rewriting edition) }
-    ensures decides { Decides words.now (F.known files.old) (F.known files.new) result }
-    ensures grows { Grows (F.known files.old) (F.known files.new) }
-{
-    let (problem, proof) = rewrite_names(words);
-    judge(alloc, Wanted::Script(edition), files, problem, proof)
-}
-
 /// What there is to say of a problem that is to be printed.
 fn convert_problem<F: Files>(alloc: Global, words: &[Bytes], files: &mut F) -> Result<Report, Halt>
     requires { command_of words.now ≡ Some Command.ConvertProblem }
@@ -63,6 +58,53 @@ fn convert_problem<F: Files>(alloc: Global, words: &[Bytes], files: &mut F) -> R
     Ok(Report::Converted(text))
 }
 
+/// What there is to say to words that are a command on files.
+fn decide_files<F: Files>(
+    alloc: Global,
+    words: &[Bytes],
+    command: Command,
+    files: &mut F,
+) -> Result<Report, Halt>
+    requires is { command_of words.now ≡ Some command }
+    requires named { (k : ℕ) → command ≢ Command.Demo k }
+    ensures decides { Decides words.now (F.known files.old) (F.known files.new) result }
+    ensures grows { Grows (F.known files.old) (F.known files.new) }
+{
+    match command {
+        Command::Check => judge_files(alloc, words, Wanted::Size, Format::Vernacular, files),
+        Command::Prove(most) => prove(alloc, words, most, files),
+        Command::ExportIsar => {
+            judge_files(alloc, words, Wanted::Isar, Format::Vernacular, files)
+        }
+        Command::ExportEnglish => {
+            judge_files(alloc, words, Wanted::English, Format::Vernacular, files)
+        }
+        Command::ConvertProblem => convert_problem(alloc, words, files),
+        Command::ConvertVernacular => judge_files(
+            alloc,
+            words,
+            Wanted::Script(Edition::First),
+            Format::Vernacular,
+            files,
+        ),
+        Command::ConvertIsar => judge_files(
+            alloc,
+            words,
+            Wanted::Script(Edition::First),
+            Format::Isar,
+            files,
+        ),
+        Command::ConvertVersion2 => judge_files(
+            alloc,
+            words,
+            Wanted::Script(Edition::Second),
+            Format::Vernacular,
+            files,
+        ),
+        Command::Demo(_) => unreachable!(),
+    }
+}
+
 /// What there is to say to words that are a command.
 fn decide<F: Files>(
     alloc: Global,
@@ -71,15 +113,14 @@ fn decide<F: Files>(
     files: &mut F,
 ) -> Result<Report, Halt>
     requires { command_of words.now ≡ Some command }
-    ensures decides { Decides words.now (F.known files.old) (F.known files.new) result }
+    ensures decides { Decides words.now (looked_at words.now (F.known files.old))
+        (looked_at words.now (F.known files.new)) result }
     ensures grows { Grows (F.known files.old) (F.known files.new) }
+    ensures unasked { AsksNoFile words.now → F.known files.new ≡ F.known files.old }
 {
     match command {
-        Command::Check => check(alloc, words, files),
-        Command::Prove(most) => prove(alloc, words, most, files),
-        Command::ConvertProblem => convert_problem(alloc, words, files),
-        Command::ConvertVernacular => convert_proof(alloc, words, Edition::First, files),
-        Command::ConvertVersion2 => convert_proof(alloc, words, Edition::Second, files),
+        Command::Demo(k) => demonstrate(alloc, k),
+        _ => decide_files(alloc, words, command, files),
     }
 }
 
@@ -91,9 +132,10 @@ pub(crate) fn reply_to<F: Files>(
     files: &mut F,
 ) -> Result<Reply, Memory>
     requires { command_of words.now ≡ Some command }
-    ensures answer { IfOk result (λ reply. Answer words.now (F.known files.old) (F.known files.new)
-        reply.is_output reply.text reply.status) }
+    ensures answer { IfOk result (λ reply. IsReply words.now (F.known files.old)
+        (F.known files.new) reply.is_output reply.text reply.status) }
     ensures grows { Grows (F.known files.old) (F.known files.new) }
+    ensures unasked { AsksNoFile words.now → F.known files.new ≡ F.known files.old }
 {
     match decide(alloc, words, command, files) {
         Ok(report) => reply_of(alloc, report),

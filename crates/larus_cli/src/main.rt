@@ -8,6 +8,7 @@ use std::process::ExitCode;
 mod arguments;
 mod command;
 mod decide;
+mod demo;
 mod judge;
 mod law;
 mod number;
@@ -19,7 +20,7 @@ mod search;
 #[cfg(test)]
 mod tests;
 
-pub use command::{Command, MOST_STEPS, read_words};
+pub use command::{Command, Format, MOST_STEPS, Wanted, read_words};
 pub use law::one_outcome;
 pub use reply::message;
 pub use report::{ProofRefusal, ProofWhy, Report};

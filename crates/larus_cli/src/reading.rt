@@ -5,15 +5,20 @@ ghost use Rattle.io_core.specs.Known.{Known};
 ghost use Rattle.io_core.specs.Fetched.{Grows, Holds};
 ghost use Rattle.coherent_form.specs.Tasks.{CitedTask};
 ghost use Rattle.proof_text.specs.Scripts.{IsScriptOf};
+ghost use Rattle.isar_text.specs.Scripts.{IsIsarOf};
 ghost use Rattle.larus_cli.specs.declared.report.Report.TheVariants.{ProofFile};
+ghost use Rattle.larus_cli.specs.declared.command.Format.{Format as Reading};
+ghost use Rattle.larus_cli.specs.declared.command.Format.TheVariants as reads;
 ghost use Rattle.larus_cli.specs.Words.{NamesProblem, NamesTask, NamesBoth};
-ghost use Rattle.larus_cli.specs.Read.{ReadsProblem, ReadsTask, ReadsBytes};
+ghost use Rattle.larus_cli.specs.Read.{ReadsProblem, ReadsTask, ReadsBytes, Spells};
 ghost use Rattle.larus_cli.specs.Reports.{Halts};
 
+use crate::command::Format;
 use crate::report::{ProofRefusal, ProofWhy, Report};
 use coherent_form::{Task, TaskWhy};
 use include_flat::{FlatWhy, flatten};
 use io_core::{FetchFault, Files, fetch_whole};
+use isar_text::{IsarRefusal, read_isar};
 use logic_core::{Bytes, Memory, Problem};
 use proof_text::{Script, ScriptRefusal, read_script};
 use std::alloc::Global;
@@ -91,9 +96,9 @@ pub(crate) fn read_second<F: Files>(
 ) -> Result<Bytes, Halt>
     ensures holds { IfOk result (λ bytes. Holds
         (F.known files.old) name.now bytes MOST_FILE_BYTES) }
-    ensures halts { (words : Lst Text) (before : Known) (problem : Text) (task : CitedTask)
-        → Grows before (F.known files.old)
-        → NamesBoth words problem name.now → ReadsTask before problem task
+    ensures halts { (words : Lst Text) (before : Known) (problem : Text) (format : Reading)
+        (task : CitedTask) → Grows before (F.known files.old)
+        → NamesBoth words problem format name.now → ReadsTask before problem task
         → IfErr result (Halts words before (F.known files.new)) }
     ensures grows { Grows (F.known files.old) (F.known files.new) }
 {
@@ -111,12 +116,13 @@ pub(crate) fn read_second<F: Files>(
     }
 }
 
-/// The script that the bytes of the second file spell.
-pub(crate) fn read_proof(alloc: Global, name: &[u8], bytes: &[u8]) -> Result<Script, Halt>
+/// The script that the bytes of the second file spell as a proof text.
+fn read_vernacular(alloc: Global, name: &[u8], bytes: &[u8]) -> Result<Script, Halt>
     requires short { length bytes.now ≤ MOST_FILE_BYTES }
     ensures spells { IfOk result (IsScriptOf bytes.now) }
     ensures halts { (words : Lst Text) (files later : Known) (problem : Text) (task : CitedTask)
-        → NamesBoth words problem name.now → ReadsBytes files problem name.now task bytes.now
+        → NamesBoth words problem reads.Vernacular name.now
+        → ReadsBytes files problem name.now task bytes.now
         → IfErr result (Halts words files later) }
 {
     match read_script(alloc, bytes) {
@@ -128,5 +134,47 @@ pub(crate) fn read_proof(alloc: Global, name: &[u8], bytes: &[u8]) -> Result<Scr
                 Err(Halt::Said(report))
             }
         },
+    }
+}
+
+/// The script that the bytes of the second file spell as an Isar text of the task.
+fn read_isar_text(alloc: Global, task: &Task, name: &[u8], bytes: &[u8]) -> Result<Script, Halt>
+    requires short { length bytes.now ≤ MOST_FILE_BYTES }
+    ensures spells { IfOk result (IsIsarOf task.now bytes.now) }
+    ensures halts { (words : Lst Text) (files later : Known) (problem : Text)
+        → NamesBoth words problem reads.Isar name.now
+        → ReadsBytes files problem name.now task.now bytes.now
+        → IfErr result (Halts words files later) }
+{
+    match read_isar(alloc, task, bytes) {
+        Ok(script) => Ok(script),
+        Err(refusal) => match refusal {
+            IsarRefusal::Memory => Err(Halt::Memory),
+            _ => {
+                let report = refused(alloc, name, ProofWhy::Isar(refusal))?;
+                Err(Halt::Said(report))
+            }
+        },
+    }
+}
+
+/// The script that the bytes of the second file spell, read in this format.
+pub(crate) fn read_proof(
+    alloc: Global,
+    format: Format,
+    task: &Task,
+    name: &[u8],
+    bytes: &[u8],
+) -> Result<Script, Halt>
+    requires short { length bytes.now ≤ MOST_FILE_BYTES }
+    ensures spells { IfOk result (Spells format task.now bytes.now) }
+    ensures halts { (words : Lst Text) (files later : Known) (problem : Text)
+        → NamesBoth words problem format name.now
+        → ReadsBytes files problem name.now task.now bytes.now
+        → IfErr result (Halts words files later) }
+{
+    match format {
+        Format::Vernacular => read_vernacular(alloc, name, bytes),
+        Format::Isar => read_isar_text(alloc, task, name, bytes),
     }
 }

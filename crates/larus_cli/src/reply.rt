@@ -1,11 +1,12 @@
 ghost use Rattle.std.specs.Prelude.{◌≡◌, ◌++◌, true, false, IfOk};
 ghost use Rattle.std.specs.Fmt.{decimal};
 ghost use Rattle.larus_cli.specs.Texts as texts;
-ghost use Rattle.larus_cli.specs.Reports.{proof_text, reply_of};
+ghost use Rattle.larus_cli.specs.Reports.{reply_of};
 
 use crate::report::{ProofRefusal, ProofWhy, Report};
 use coherent_form::{TaskRefusal, TaskWhy};
 use include_flat::{FlatRefusal, FlatWhy};
+use isar_text::IsarRefusal;
 use logic_core::{Bytes, Memory};
 use proof_checker::{Rule, StepRefusal, Why};
 use proof_text::ScriptRefusal;
@@ -119,13 +120,26 @@ fn script(alloc: Global, file: &[u8], refusal: &ScriptRefusal) -> Result<Bytes, 
     }
 }
 
+fn isar(alloc: Global, file: &[u8], refusal: &IsarRefusal) -> Result<Bytes, Memory>
+    ensures { IfOk result (λ all. all ≡ file.now ++ texts.isar_text refusal.now) }
+{
+    match refusal {
+        IsarRefusal::Head(offset) => at_offset(alloc, file, *offset, b": 43 IsarHead"),
+        IsarRefusal::Syntax(offset) => at_offset(alloc, file, *offset, b": 42 IsarSyntax"),
+        IsarRefusal::TooLarge(offset) => at_offset(alloc, file, *offset, b": 22 ProofTooLarge"),
+        IsarRefusal::TooDeep(offset) => at_offset(alloc, file, *offset, b": 23 CasesTooDeep"),
+        IsarRefusal::Memory => Err(Memory),
+    }
+}
+
 fn proof(alloc: Global, refusal: &ProofRefusal) -> Result<Bytes, Memory>
-    ensures { IfOk result (λ all. all ≡ refusal.now.file ++ proof_text refusal.now.why) }
+    ensures { IfOk result (λ all. all ≡ refusal.now.file ++ texts.proof_text refusal.now.why) }
 {
     let file = refusal.file.as_slice();
     match &refusal.why {
         ProofWhy::FileTooLong => named(alloc, file, b": 12 FileTooLong"),
         ProofWhy::Script(refusal) => script(alloc, file, refusal),
+        ProofWhy::Isar(refusal) => isar(alloc, file, refusal),
     }
 }
 
@@ -230,6 +244,18 @@ fn none_up_to(alloc: Global, most: u32) -> Result<Bytes, Memory>
     Ok(all)
 }
 
+/// The line of a demonstration.
+fn demonstrated(alloc: Global, k: u32, problem: u32, proof: u32, size: u32) -> Result<Bytes, Memory>
+    ensures { IfOk result (λ all. all ≡ texts.demo_text k problem proof size) }
+{
+    let mut all = numbered(alloc, b"demo ", k)?;
+    all.extend_from_slice(numbered(alloc, b": problem ", problem)?.as_slice())?;
+    all.extend_from_slice(numbered(alloc, b" bytes, proof ", proof)?.as_slice())?;
+    all.extend_from_slice(numbered(alloc, b" bytes, accepted ", size)?.as_slice())?;
+    all.push(b'\n')?;
+    Ok(all)
+}
+
 /// An answer for the output.
 fn answered(text: Bytes, status: u8) -> Reply
     ensures { result ≡ record { text = text; is_output = true; status = status } }
@@ -261,6 +287,12 @@ pub(crate) fn reply_of(alloc: Global, report: Report) -> Result<Reply, Memory>
         Report::Refused(refusal) => answered(step(alloc, &refusal)?, 1),
         Report::Converted(text) => answered(text, 0),
         Report::NoneUpTo(most) => answered(none_up_to(alloc, most)?, 1),
+        Report::Demo {
+            k,
+            problem,
+            proof,
+            size,
+        } => answered(demonstrated(alloc, k, problem, proof, size)?, 0),
         Report::FileFault(file) => complained(
             named(alloc, file.as_slice(), b": 11 FileFault")?,
             66,

@@ -1,5 +1,6 @@
 use coherent_form::TaskRefusal;
 use include_flat::FlatRefusal;
+use isar_text::IsarRefusal;
 use logic_core::Bytes;
 use proof_checker::StepRefusal;
 use proof_text::ScriptRefusal;
@@ -18,6 +19,8 @@ pub enum ProofWhy {
     FileTooLong,
     /// Its bytes spell no script.
     Script(ScriptRefusal),
+    /// Its bytes are no Isar text of the problem's task.
+    Isar(IsarRefusal),
 }
 
 /// What there is to say of a problem, or of a problem and a proof. Files are told by the names by
@@ -28,10 +31,19 @@ pub enum Report {
     Accepted(u32),
     /// A step of the proof is refused.
     Refused(StepRefusal),
-    /// The canonical text of the problem, or of a script that stands for the proof.
+    /// The canonical text of the problem, or of a script that stands for the proof, or the proof's
+    /// Isar or English text.
     Converted(Bytes),
     /// No proof of the problem has so many rule applications or fewer.
     NoneUpTo(u32),
+    /// The made proof for so many implications is accepted, with so many rule applications; the made
+    /// problem and the made proof have so many bytes.
+    Demo {
+        k: u32,
+        problem: u32,
+        proof: u32,
+        size: u32,
+    },
     /// This file could not be fetched.
     FileFault(Bytes),
     /// A file of the problem is refused, for another reason than a fetch that failed.

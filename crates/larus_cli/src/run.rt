@@ -1,15 +1,20 @@
-ghost use Rattle.std.specs.Prelude.{◌≡◌, ◌≤◌, ◌⊎◌, [], ◌∷◌, ℕ, List, None, codes};
+ghost use Rattle.std.specs.Prelude.{◌≡◌, ◌≢◌, ◌≤◌, ◌⊎◌, [], ◌∷◌, ℕ, List, Some, None, codes};
 ghost use Rattle.std.specs.Fmt.{decimal};
 ghost use Rattle.logic_core.specs.Truth.{structure};
 ghost use Rattle.text_core.specs.Lists.{IsAmong};
 ghost use Rattle.text_core.specs.Names.{Text};
 ghost use Rattle.io_core.specs.Causes.{Rose};
+ghost use Rattle.io_core.specs.Held.{Held};
 ghost use Rattle.io_core.specs.Fetched.{Grows};
 ghost use Rattle.io_core.specs.Stream.{Puts, Breaks};
 ghost use Rattle.proof_text.specs.declared.part.Edition.{Edition};
-ghost use Rattle.larus_cli.specs.Words.{command_of, edition_word};
+ghost use Rattle.proof_text.specs.declared.part.Edition.TheVariants.{First};
+ghost use Rattle.larus_cli.specs.declared.command.Format.TheVariants.{Vernacular, Isar};
+ghost use Rattle.larus_cli.specs.Words.{Aim, Asks, command_of, edition_word};
+ghost use Rattle.larus_cli.specs.OwnFiles.{looked_at, AsksNoFile};
+ghost use Rattle.larus_cli.specs.Complete.{IsReadable, CanBeDone, NoFault};
 ghost use Rattle.larus_cli.specs.Follows.{ProblemFollows};
-ghost use Rattle.larus_cli.specs.Printed.{ProblemPrinted, ProofPrinted};
+ghost use Rattle.larus_cli.specs.Printed.{ProblemPrinted, ProofPrinted, IsarPrinted};
 ghost use Rattle.larus_cli.specs.Sought.{SmallestPrinted, NoneTold};
 ghost use Rattle.larus_cli.specs.Outcome.{Outcome, sinks};
 
@@ -24,8 +29,12 @@ use std::alloc::Global;
 const USAGE: &[u8] = b"44 Usage
 check PROBLEM PROOF
 prove PROBLEM MOST
+export isar PROBLEM PROOF
+export english PROBLEM PROOF
 convert problem PROBLEM
 convert vernacular PROBLEM PROOF
+convert isar PROBLEM ISARTEXT
+demo K
 convert version2 PROBLEM PROOF
 ";
 
@@ -58,6 +67,7 @@ fn answer<F: Files, O: Sink, E: Sink>(
         (sinks (O.stream out.old) (E.stream errs.old))
         (sinks (O.stream out.new) (E.stream errs.new)) result }
     ensures grows { Grows (F.known files.old) (F.known files.new) }
+    ensures unasked { AsksNoFile words.now → F.known files.new ≡ F.known files.old }
 {
     let Some(command) = read_words(words) else {
         return put_answer(errs, USAGE, 64);
@@ -109,15 +119,45 @@ pub fn run<W: World, F: Files, O: Sink, E: Sink>(
     ensures printed { (problem : Text)
         → words.now ≡ codes "convert" ∷ codes "problem" ∷ problem ∷ [] → result ≡ 0
         → ProblemPrinted (F.known files.old) problem (O.stream out.old) (O.stream out.new) }
-    // A converted proof: what is printed reads back as a script, of the version that is asked for,
-    // which is accepted as the same body as the proof that was read.
+    // A converted proof: what is printed is its canonical text, and reads back as a script, of the
+    // version that is asked for, which is accepted as the same body as the proof that was read.
     ensures rewritten { (edition : Edition) (problem proof : Text)
         → words.now ≡ codes "convert" ∷ edition_word edition ∷ problem ∷ proof ∷ [] → result ≡ 0
-        → ProofPrinted edition (F.known files.old) problem proof
+        → ProofPrinted Vernacular edition (F.known files.old) problem proof
         (O.stream out.old) (O.stream out.new) }
+    // A converted Isar text: what is printed is the canonical text of the proof that it stands for.
+    ensures from_isar { (problem text : Text)
+        → words.now ≡ codes "convert" ∷ codes "isar" ∷ problem ∷ text ∷ [] → result ≡ 0
+        → ProofPrinted Isar First (F.known files.old) problem text
+        (O.stream out.old) (O.stream out.new) }
+    // A proof exported in Isar: what is printed is the Isar text of a script that is accepted as the
+    // same body as the proof that was read.
+    ensures exported { (problem proof : Text)
+        → words.now ≡ codes "export" ∷ codes "isar" ∷ problem ∷ proof ∷ [] → result ≡ 0
+        → IsarPrinted (F.known files.old) problem proof (O.stream out.old) (O.stream out.new) }
     ensures outcome { Outcome words.now (F.known files.old) (F.known files.new)
         (sinks (O.stream out.old) (E.stream errs.old))
         (sinks (O.stream out.new) (E.stream errs.new)) result }
+    // Where what is asked for is there, in its grammar and within its limits, and nothing outside
+    // fails, the command is done or there is no such proof, or memory ran out.
+    ensures complete { (held : Held) (problem : Text) (aim : Aim) → Asks words.now problem aim
+        → (looked_at words.now (F.known files.old)).held ≡ Some held
+        → IsReadable (looked_at words.now (F.known files.old)) problem aim
+        → NoFault (F.known files.old) (F.known files.new)
+        (sinks (O.stream out.old) (E.stream errs.old))
+        (sinks (O.stream out.new) (E.stream errs.new))
+        → IsAmong result (0 ∷ 1 ∷ 71 ∷ []) }
+    // Where besides there is such a proof, the command is done, or memory ran out.
+    ensures succeeds { (held : Held) (problem : Text) (aim : Aim) → Asks words.now problem aim
+        → (looked_at words.now (F.known files.old)).held ≡ Some held
+        → CanBeDone (looked_at words.now (F.known files.old)) problem aim
+        → NoFault (F.known files.old) (F.known files.new)
+        (sinks (O.stream out.old) (E.stream errs.old))
+        (sinks (O.stream out.new) (E.stream errs.new))
+        → IsAmong result (0 ∷ 71 ∷ []) }
+    // Words that are no command and demonstrations ask for no file.
+    ensures unasked { AsksNoFile words.now → F.known files.new ≡ F.known files.old }
+    ensures no_fetch { AsksNoFile words.now → result ≢ 66 }
     ensures files_grow { Grows (F.known files.old) (F.known files.new) }
     ensures out_grows { (O.stream out.old).faults ≤ (O.stream out.new).faults }
     ensures errs_grow { (E.stream errs.old).faults ≤ (E.stream errs.new).faults }

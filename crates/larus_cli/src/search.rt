@@ -2,7 +2,7 @@ ghost use Rattle.std.specs.Prelude.{◌≡◌, ◌≤◌, IfOk, IfSome, IfNone, 
 ghost use Rattle.text_core.specs.Names.{Text};
 ghost use Rattle.vernacular_tree.specs.Sizes.{size};
 ghost use Rattle.io_core.specs.Known.{Known};
-ghost use Rattle.larus_cli.specs.Words.{prove_words};
+ghost use Rattle.larus_cli.specs.Words.{to_prove, Asks};
 ghost use Rattle.larus_cli.specs.Smallest.{IsSmallest, HasNoProof};
 ghost use Rattle.larus_cli.specs.Read.{ReadsTask};
 ghost use Rattle.larus_cli.specs.Reports.{Decides};
@@ -44,7 +44,7 @@ fn smallest(alloc: Global, task: &Task, most: u32) -> Result<Option<Proof>, Memo
 pub(crate) fn prove_task(alloc: Global, task: &Task, most: u32) -> Result<Report, Halt>
     requires { most ≤ MOST_STEPS }
     ensures { (words : Lst Text) (files later : Known) (problem : Text)
-        → words ≡ prove_words problem most → ReadsTask files problem task.now
+        → Asks words problem (to_prove most) → ReadsTask files problem task.now
         → Decides words files later result }
 {
     match smallest(alloc, task, most)? {

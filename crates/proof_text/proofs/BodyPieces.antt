@@ -25,7 +25,8 @@ use Rattle.proof_text.specs.declared.part.Pass.TheVariants as pass
 use Rattle.proof_text.specs.Marks.{marked, most_number}
 use Rattle.proof_text.specs.Grammar.{proof_texts}
 use Rattle.proof_text.specs.Values.{Value, Written, with_step, proof_text_making}
-use Rattle.proof_text.specs.Canonical.{names_text, shown_text, indent, line_end, step_text, steps_text, end_text, cases_text, body_text, script_text}
+use Rattle.proof_text.specs.Lines.{names_text}
+use Rattle.proof_text.specs.Canonical.{shown_text, indent, line_end, step_text, steps_text, end_text, cases_text, body_text, script_text}
 use Rattle.proof_text.specs.Named.{NamesAreNamed, AtomsAreNamed, ShownIsNamed, StepIsNamed, EndIsNamed, CasesAreNamed, ScriptIsNamed}
 use Rattle.proof_text.specs.Proper.{IsShownIn, AtomsAreProper, StepIsProper, GapIsProper, EndIsProper, HasCase, CasesAreProper, IsProper, version_number}
 use Rattle.proof_text.specs.Scripts.{IsScriptOf}

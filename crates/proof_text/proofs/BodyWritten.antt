@@ -20,7 +20,8 @@ use Rattle.proof_text.specs.declared.body.NamedAtom.{NamedAtom}
 use Rattle.proof_text.specs.declared.part.Edition as Edition
 use Rattle.proof_text.specs.Branches.{given_line}
 use Rattle.proof_text.specs.ScriptOf.{form_of, lists_in, first_list, other_lists, after_step_of, after_steps, body_of, end_of, cases_of}
-use Rattle.proof_text.specs.Showing.{IsInside, ListProves, case_of, each_case, printed_facts}
+use Rattle.proof_text.specs.Showing.{IsInside, ListProves, case_of, each_case}
+use Rattle.proof_text.specs.Printing.{printed_facts}
 use Rattle.proof_text.proofs.Inside.{cases_inside, case_below}
 use Rattle.proof_text.proofs.PrintedLines.{facts_shown}
 
@@ -95,13 +96,13 @@ drop_further (y ∷ xs) zero x rest is = let same : xs ≡ rest = cc in same
 drop_further (y ∷ xs) (suc n) x rest is = rw add-one (let further = drop_further xs n x rest is in rw add-one at further)
 
 -- the list with a number is the first of those from there on
-first_dropped : (lists : List (List Atom)) (n : ℕ) (facts : List Atom) → slice_get lists n ≡ Some facts → first_list (drop n lists) ≡ facts
+pub first_dropped : (lists : List (List Atom)) (n : ℕ) (facts : List Atom) → slice_get lists n ≡ Some facts → first_list (drop n lists) ≡ facts
 first_dropped [] n facts is = absurd (cc)
 first_dropped (list ∷ lists) zero facts is = value_same is
 first_dropped (list ∷ lists) (suc n) facts is = first_dropped lists n facts is
 
 -- the others are those behind it
-others_dropped : (lists : List (List Atom)) (n : ℕ) (facts : List Atom) → slice_get lists n ≡ Some facts → other_lists (drop n lists) ≡ drop (n + 1) lists
+pub others_dropped : (lists : List (List Atom)) (n : ℕ) (facts : List Atom) → slice_get lists n ≡ Some facts → other_lists (drop n lists) ≡ drop (n + 1) lists
 others_dropped [] n facts is = absurd (cc)
 others_dropped (list ∷ lists) zero facts is = refl
 others_dropped (list ∷ lists) (suc n) facts is = rw add-one (let further = others_dropped lists n facts is in rw add-one at further)

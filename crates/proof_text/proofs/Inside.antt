@@ -38,7 +38,7 @@ atom_at_fits tables xs atom h = record {
 }
 
 -- atoms of a form at elements fit
-facts_at_fit : (tables : Tables) (xs : List ℕ) (atoms : List Atom) → AllByRecursion (AtomFits tables) atoms
+pub facts_at_fit : (tables : Tables) (xs : List ℕ) (atoms : List Atom) → AllByRecursion (AtomFits tables) atoms
     → AllByRecursion (FactFits tables) (map (atom_at xs) atoms)
 facts_at_fit tables xs atoms h = each_mapped (FactFits tables) (atom_at xs) (λ atom fits also. atom_at_fits tables xs atom fits) atoms h h
 

@@ -31,7 +31,8 @@ use Rattle.proof_text.specs.declared.part.Pass.TheVariants as pass
 use Rattle.proof_text.specs.Fixed.{dollar_of}
 use Rattle.proof_text.specs.Grammar.{rows}
 use Rattle.proof_text.specs.Values.{RuleValue, Value, makers, name_in, atom_of, equation, cases_of}
-use Rattle.proof_text.specs.Canonical.{listed_text, names_text, arguments_text, predicate_text, atom_text, atoms_text, facts_text, part_text, line_text}
+use Rattle.proof_text.specs.declared.wording.Wording.TheVariants.{Signs}
+use Rattle.proof_text.specs.Lines.{listed_text, names_text, arguments_text, predicate_text, atom_text, atoms_text, facts_text, part_text, line_text}
 use Rattle.proof_text.specs.Named.{NamesAreNamed, AtomIsNamed, AtomsAreNamed, LineIsNamed, PredicateIsNamed}
 use Rattle.proof_text.specs.Proper.{AtomIsProper, AtomsAreProper, LineIsProper, HasArguments}
 use Rattle.proof_text.proofs.Standing.{Spells, SpellsRow, Meaning, Meanings, EachMeans, no_members, member_first, rule_spelled}
@@ -233,7 +234,7 @@ inequality_piece l r left right =
 -- an atom
 by_parts : (positive : Bool) (predicate : Option Text) (args : List Text) → PredicateIsNamed predicate → NamesAreNamed args →
     HasArguments predicate args →
-    Gives NoWord (predicate_text positive predicate args)
+    Gives NoWord (predicate_text Signs positive predicate args)
     (Spells (Row rule.Atom) (record { positive = positive; predicate = predicate; args = args }))
 by_parts true (Some p) args name named has = predicate_piece p args name named
 by_parts false (Some p) args name named has = tilde_piece p args name named
@@ -244,7 +245,7 @@ by_parts false None (l ∷ r ∷ []) name named has = inequality_piece l r named
 by_parts positive None (l ∷ r ∷ x ∷ xs) name named has = absurd (omega (arith, has))
 
 -- an atom is a piece that spells it
-pub atom_piece : (a : NamedAtom) → AtomIsNamed a → AtomIsProper a → Gives NoWord (atom_text a) (Spells (Row rule.Atom) a)
+pub atom_piece : (a : NamedAtom) → AtomIsNamed a → AtomIsProper a → Gives NoWord (atom_text Signs a) (Spells (Row rule.Atom) a)
 atom_piece a named proper = by_parts a.positive a.predicate a.args named.0 named.1 proper
 
 -- further atoms follow an atom
@@ -254,14 +255,14 @@ atoms_follow (x ∷ xs) rest may = refl
 
 -- further atoms
 more_atoms_piece : (atoms : List NamedAtom) → AtomsAreNamed atoms → AtomsAreProper atoms →
-    Gives NoWord (led (codes " & ") (codes " & ") (map atom_text atoms)) (Spells (Row rule.MoreAtoms) atoms)
+    Gives NoWord (led (codes " & ") (codes " & ") (map (atom_text Signs) atoms)) (Spells (Row rule.MoreAtoms) atoms)
 more_atoms_piece [] named proper = rule_piece rule.MoreAtoms (inl tt) tt [] (λ all values mean. refl) (before (λ rest may. tt) none_piece)
 more_atoms_piece (a ∷ atoms) named proper =
     rule_piece rule.MoreAtoms (inr (inl tt)) (tt, (a, (atoms, tt))) (a ∷ atoms)
     (λ all values mean. same_list values.1.0 a values.1.1.0 atoms mean.1.0 mean.1.1.0)
     (and_then tt (a, (atoms, tt)) (sign_piece kind.Ampersand fixed.Ampersand act.Nothing (λ text. refl) ampersand)
     (and_then a (atoms, tt) (atom_piece a named.0 proper.0) (and_last atoms (more_atoms_piece atoms named.1 proper.1))
-    (λ rest may. atoms_follow (map atom_text atoms) rest may)) (λ rest may. tt))
+    (λ rest may. atoms_follow (map (atom_text Signs) atoms) rest may)) (λ rest may. tt))
 
 -- `$true`
 true_piece : (does : Act.Act) → Gives NoWord (codes "$true") (Spells (Taken (taker.Fixed fixed.True does)) tt)
@@ -269,16 +270,16 @@ unfolding dollar_of
 true_piece does = text_piece kind.Dollar (codes "$true") fixed.True does refl (dollar_word (codes "true") refl)
 
 -- facts
-pub facts_piece : (atoms : List NamedAtom) → AtomsAreNamed atoms → AtomsAreProper atoms → Gives NoWord (facts_text atoms) (Spells (Row rule.Facts) atoms)
+pub facts_piece : (atoms : List NamedAtom) → AtomsAreNamed atoms → AtomsAreProper atoms → Gives NoWord (facts_text Signs atoms) (Spells (Row rule.Facts) atoms)
 facts_piece [] named proper =
     rule_piece rule.Facts (inl tt) (tt, tt) [] (λ all values mean. refl) (and_last tt (true_piece act.BeginAtoms))
 facts_piece (a ∷ atoms) named proper =
-    as_text (sym (joined_led (codes " & ") (map atom_text (a ∷ atoms))))
+    as_text (sym (joined_led (codes " & ") (map (atom_text Signs) (a ∷ atoms))))
     (rule_piece rule.Facts (inr (inl tt)) (tt, (a, (atoms, tt))) (a ∷ atoms)
     (λ all values mean. same_list values.1.0 a values.1.1.0 atoms mean.1.0 mean.1.1.0)
     (and_then tt (a, (atoms, tt)) (does_piece pass.BeginAtoms)
     (and_then a (atoms, tt) (atom_piece a named.0 proper.0) (and_last atoms (more_atoms_piece atoms named.1 proper.1))
-    (λ rest may. atoms_follow (map atom_text atoms) rest may)) (λ rest may. tt)))
+    (λ rest may. atoms_follow (map (atom_text Signs) atoms) rest may)) (λ rest may. tt)))
 
 -- texts of a group, in two orders
 group_order : (a b c d e : Text) → a ++ (b ++ (c ++ (d ++ e))) ≡ (a ++ b ++ (c ++ d)) ++ e
@@ -286,9 +287,9 @@ group_order a b c d e = simp append_assoc
 
 -- two or more atoms in brackets
 group_piece : (a b : NamedAtom) (atoms : List NamedAtom) → AtomsAreNamed (a ∷ b ∷ atoms) → AtomsAreProper (a ∷ b ∷ atoms) →
-    Gives Any (codes "(" ++ atoms_text (a ∷ b ∷ atoms) ++ codes ")") (Spells (Row rule.Group) (a ∷ b ∷ atoms))
+    Gives Any (codes "(" ++ atoms_text Signs (a ∷ b ∷ atoms) ++ codes ")") (Spells (Row rule.Group) (a ∷ b ∷ atoms))
 group_piece a b atoms named proper =
-    as_text (same_text (led (codes " & ") (codes " & ") (map atom_text atoms)) (joined_led (codes " & ") (map atom_text (b ∷ atoms))))
+    as_text (same_text (led (codes " & ") (codes " & ") (map (atom_text Signs) atoms)) (joined_led (codes " & ") (map (atom_text Signs) (b ∷ atoms))))
     (rule_piece rule.Group (inl tt) (tt, (a, (tt, (b, (atoms, (tt, tt)))))) (a ∷ b ∷ atoms)
     (λ all values mean. same_list values.1.0 a (values.1.1.1.0 ∷ values.1.1.1.1.0) (b ∷ atoms) mean.1.0
     (same_list values.1.1.1.0 b values.1.1.1.1.0 atoms mean.1.1.1.0 mean.1.1.1.1.0))
@@ -298,23 +299,23 @@ group_piece a b atoms named proper =
     (and_then b (atoms, (tt, tt)) (atom_piece b named.1.0 proper.1.0)
     (and_then atoms (tt, tt) (more_atoms_piece atoms named.1.1 proper.1.1)
     (and_last tt (sign_piece kind.CloseParenthesis fixed.CloseParenthesis act.Nothing (λ text. refl) close_parenthesis)) (λ rest may. refl))
-    (λ rest may. close_follows (map atom_text atoms) rest)) (λ rest may. tt)) (λ rest may. refl)) (λ rest may. tt)))
+    (λ rest may. close_follows (map (atom_text Signs) atoms) rest)) (λ rest may. tt)) (λ rest may. refl)) (λ rest may. tt)))
   where
     close_follows : (xs : List Text) (rest : Text) → NoWord ((led (codes " & ") (codes " & ") xs ++ codes ")") ++ rest)
     close_follows [] rest = refl
     close_follows (x ∷ xs) rest = refl
 
-    same_text : (more : Text) → atoms_text (b ∷ atoms) ≡ [] ++ (atom_text b ++ more) →
-        codes "(" ++ (atom_text a ++ (codes " & " ++ (atom_text b ++ (more ++ codes ")")))) ≡
-        codes "(" ++ atoms_text (a ∷ b ∷ atoms) ++ codes ")"
+    same_text : (more : Text) → atoms_text Signs (b ∷ atoms) ≡ [] ++ (atom_text Signs b ++ more) →
+        codes "(" ++ (atom_text Signs a ++ (codes " & " ++ (atom_text Signs b ++ (more ++ codes ")")))) ≡
+        codes "(" ++ atoms_text Signs (a ∷ b ∷ atoms) ++ codes ")"
     same_text more e =
-        let inner = group_order (atom_text a) (codes " & ") (atom_text b) more (codes ")") in
+        let inner = group_order (atom_text Signs a) (codes " & ") (atom_text Signs b) more (codes ")") in
         ap (λ (t : Text). codes "(" ++ t) inner ∙
-        sym (append_assoc (codes "(") (atom_text a ++ codes " & " ++ (atom_text b ++ more)) (codes ")")) ∙
-        ap (λ (t : Text). codes "(" ++ (atom_text a ++ codes " & " ++ t) ++ codes ")") (sym e)
+        sym (append_assoc (codes "(") (atom_text Signs a ++ codes " & " ++ (atom_text Signs b ++ more)) (codes ")")) ∙
+        ap (λ (t : Text). codes "(" ++ (atom_text Signs a ++ codes " & " ++ t) ++ codes ")") (sym e)
 
 -- a part of a line
-part_piece : (atoms : List NamedAtom) → AtomsAreNamed atoms → AtomsAreProper atoms → Gives NoWord (part_text atoms) (Spells (Row rule.LinePart) atoms)
+part_piece : (atoms : List NamedAtom) → AtomsAreNamed atoms → AtomsAreProper atoms → Gives NoWord (part_text Signs atoms) (Spells (Row rule.LinePart) atoms)
 part_piece [] named proper =
     rule_piece rule.LinePart (inl tt) (tt, tt) [] (λ all values mean. refl) (and_last tt (true_piece act.BeginAtoms))
 part_piece (a ∷ []) named proper =
@@ -331,23 +332,23 @@ parts_follow (x ∷ xs) rest may = refl
 
 -- parts behind the second
 bars_piece : (ps : List (List NamedAtom)) → AllByRecursion AtomsAreNamed ps → AllByRecursion AtomsAreProper ps →
-    Gives NoWord (led (codes " | ") (codes " | ") (map part_text ps)) (Spells (Row rule.Bars) ps)
+    Gives NoWord (led (codes " | ") (codes " | ") (map (part_text Signs) ps)) (Spells (Row rule.Bars) ps)
 bars_piece [] named proper = rule_piece rule.Bars (inl tt) tt [] (λ all values mean. refl) (before (λ rest may. tt) none_piece)
 bars_piece (p ∷ ps) named proper =
     rule_piece rule.Bars (inr (inl tt)) (tt, (p, (ps, tt))) (p ∷ ps)
     (λ all values mean. same_list values.1.0 p values.1.1.0 ps mean.1.0 mean.1.1.0)
     (and_then tt (p, (ps, tt)) (sign_piece kind.Bar fixed.Bar act.AddPart (λ text. refl) bar)
     (and_then p (ps, tt) (part_piece p named.0 proper.0) (and_last ps (bars_piece ps named.1 proper.1))
-    (λ rest may. parts_follow (map part_text ps) rest may)) (λ rest may. tt))
+    (λ rest may. parts_follow (map (part_text Signs) ps) rest may)) (λ rest may. tt))
 
 -- the parts behind the first
 further_piece : (p : List NamedAtom) (ps : List (List NamedAtom)) → AllByRecursion AtomsAreNamed (p ∷ ps) → AllByRecursion AtomsAreProper (p ∷ ps) →
-    Gives NoWord (codes " | " ++ (part_text p ++ led (codes " | ") (codes " | ") (map part_text ps)))
+    Gives NoWord (codes " | " ++ (part_text Signs p ++ led (codes " | ") (codes " | ") (map (part_text Signs) ps)))
     (SpellsRow (Taken (taker.Fixed fixed.Bar act.BeginParts) ∷ Row rule.LinePart ∷ Row rule.Bars ∷ []) (tt, (p, (ps, tt))))
 further_piece p ps named proper =
     and_then tt (p, (ps, tt)) (sign_piece kind.Bar fixed.Bar act.BeginParts (λ text. refl) bar)
     (and_then p (ps, tt) (part_piece p named.0 proper.0) (and_last ps (bars_piece ps named.1 proper.1))
-    (λ rest may. parts_follow (map part_text ps) rest may)) (λ rest may. tt)
+    (λ rest may. parts_follow (map (part_text Signs) ps) rest may)) (λ rest may. tt)
 
 -- the line of parts
 same_cases : (p : List NamedAtom) (ps : List (List NamedAtom)) (q : List NamedAtom) (qs : List (List NamedAtom)) → q ≡ p → qs ≡ ps →
@@ -357,7 +358,7 @@ same_cases p ps q qs e f = ap (λ x. cases_of x qs) e ∙ ap (cases_of p) f
 -- a line of cases, by its first part
 cases_piece : (first second : List NamedAtom) (others : List (List NamedAtom)) → AllByRecursion AtomsAreNamed (first ∷ second ∷ others) →
     AllByRecursion AtomsAreProper (first ∷ second ∷ others) →
-    Gives NoWord (part_text first ++ (codes " | " ++ (part_text second ++ led (codes " | ") (codes " | ") (map part_text others))))
+    Gives NoWord (part_text Signs first ++ (codes " | " ++ (part_text Signs second ++ led (codes " | ") (codes " | ") (map (part_text Signs) others))))
     (Spells (Row rule.Line) (shown.Cases (first ∷ second ∷ others)))
 cases_piece [] second others named proper =
     rule_piece rule.Line (inr (inl tt)) (tt, (cases_of second others, tt)) (shown.Cases ([] ∷ second ∷ others))
@@ -383,7 +384,7 @@ cases_piece (a ∷ b ∷ atoms) second others named proper =
     (λ rest may. tt))
 
 -- a line of facts
-facts_line : (atoms : List NamedAtom) → AtomsAreNamed atoms → AtomsAreProper atoms → Gives NoWord (facts_text atoms) (Spells (Row rule.Line) (shown.Facts atoms))
+facts_line : (atoms : List NamedAtom) → AtomsAreNamed atoms → AtomsAreProper atoms → Gives NoWord (facts_text Signs atoms) (Spells (Row rule.Line) (shown.Facts atoms))
 facts_line [] named proper =
     rule_piece rule.Line (inr (inl tt)) (tt, (shown.Facts, tt)) (shown.Facts [])
     (λ all values mean. ap (λ (f : List NamedAtom → Shown.Shown). f []) mean.1.0)
@@ -393,12 +394,12 @@ facts_line [] named proper =
 facts_line (a ∷ []) named proper =
     rule_piece rule.Line (inr (inr (inl tt))) (tt, (a, (shown.Facts, tt))) (shown.Facts (a ∷ []))
     (λ all values mean. ap (λ (f : List NamedAtom → Shown.Shown). f (values.1.0 ∷ [])) mean.1.1.0 ∙ ap (λ (x : NamedAtom). shown.Facts (x ∷ [])) mean.1.0)
-    (as_text (append-nil (atom_text a)) (and_then tt (a, (shown.Facts, tt)) (does_piece pass.BeginAtoms)
+    (as_text (append-nil (atom_text Signs a)) (and_then tt (a, (shown.Facts, tt)) (does_piece pass.BeginAtoms)
     (and_then a (shown.Facts, tt) (atom_piece a named.0 proper.0) (and_last shown.Facts
     (rule_piece rule.AfterAtom (inl tt) tt shown.Facts (λ all values mean. refl) (before (λ rest may. tt) none_piece)))
     (λ rest may. may)) (λ rest may. tt)))
 facts_line (a ∷ b ∷ atoms) named proper =
-    as_text (sym (joined_led (codes " & ") (map atom_text (a ∷ b ∷ atoms))))
+    as_text (sym (joined_led (codes " & ") (map (atom_text Signs) (a ∷ b ∷ atoms))))
     (rule_piece rule.Line (inr (inr (inl tt))) (tt, (a, ((λ (first : List NamedAtom). shown.Facts (first ++ (b ∷ atoms))), tt))) (shown.Facts (a ∷ b ∷ atoms))
     (λ all values mean. ap (λ (f : List NamedAtom → Shown.Shown). f (values.1.0 ∷ [])) mean.1.1.0 ∙ ap (λ (x : NamedAtom). shown.Facts ((x ∷ []) ++ (b ∷ atoms))) mean.1.0)
     (and_then tt (a, ((λ (first : List NamedAtom). shown.Facts (first ++ (b ∷ atoms))), tt)) (does_piece pass.BeginAtoms)
@@ -407,17 +408,17 @@ facts_line (a ∷ b ∷ atoms) named proper =
     (λ all values mean. same_facts values.1.0 values.1.1.0 mean.1.0 mean.1.1.0)
     (and_then tt (b, (atoms, (tt, tt))) (sign_piece kind.Ampersand fixed.Ampersand act.Nothing (λ text. refl) ampersand)
     (and_then b (atoms, (tt, tt)) (atom_piece b named.1.0 proper.1.0)
-    (as_text (append-nil (led (codes " & ") (codes " & ") (map atom_text atoms)))
+    (as_text (append-nil (led (codes " & ") (codes " & ") (map (atom_text Signs) atoms)))
     (and_then atoms (tt, tt) (more_atoms_piece atoms named.1.1 proper.1.1) (and_last tt (before (λ rest may. tt) (does_piece pass.ShowFacts)))
     (λ rest may. may)))
-    (λ rest may. atoms_follow (map atom_text atoms) rest may)) (λ rest may. tt)))) (λ rest may. refl)) (λ rest may. tt)))
+    (λ rest may. atoms_follow (map (atom_text Signs) atoms) rest may)) (λ rest may. tt)))) (λ rest may. refl)) (λ rest may. tt)))
   where
     same_facts : (c : NamedAtom) (cs : List NamedAtom) → c ≡ b → cs ≡ atoms →
         ◌≡◌ {A = List NamedAtom → Shown.Shown} (λ first. shown.Facts (first ++ (c ∷ cs))) (λ first. shown.Facts (first ++ (b ∷ atoms)))
     same_facts c cs e f = ap (λ (xs : List NamedAtom). λ (first : List NamedAtom). shown.Facts (first ++ xs)) (same_list c b cs atoms e f)
 
 -- a line
-pub line_piece : (line : Shown.Shown) → LineIsNamed line → LineIsProper line → Gives NoWord (line_text line) (Spells (Row rule.Line) line)
+pub line_piece : (line : Shown.Shown) → LineIsNamed line → LineIsProper line → Gives NoWord (line_text Signs line) (Spells (Row rule.Line) line)
 unfolding dollar_of
 line_piece shown.Falsum named proper =
     rule_piece rule.Line (inl tt) (tt, tt) shown.Falsum (λ all values mean. refl)
@@ -426,4 +427,4 @@ line_piece (shown.Facts atoms) named proper = facts_line atoms named proper
 line_piece (shown.Cases []) named proper = absurd proper.0
 line_piece (shown.Cases (p ∷ [])) named proper = absurd proper.0
 line_piece (shown.Cases (p ∷ q ∷ ps)) named proper =
-    as_text (sym (joined_led (codes " | ") (map part_text (p ∷ q ∷ ps)))) (cases_piece p q ps named proper.1)
+    as_text (sym (joined_led (codes " | ") (map (part_text Signs) (p ∷ q ∷ ps)))) (cases_piece p q ps named proper.1)

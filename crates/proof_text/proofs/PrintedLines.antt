@@ -16,8 +16,7 @@ use Rattle.vernacular_tree.specs.declared.context.Line.TheVariants as line
 use Rattle.coherent_form.specs.Tasks.{CitedTask}
 use Rattle.proof_text.specs.declared.body.Shown.TheVariants as shown
 use Rattle.proof_text.specs.Branches.{slot_name, predicate_of, named_atom, named_facts, shown_line}
-use Rattle.proof_text.specs.Showing.{printed_slot, printed_atom, printed_facts, printed_line}
-use Rattle.proof_text.specs.ScriptOf.{printed}
+use Rattle.proof_text.specs.Printing.{printed, printed_slot, printed_atom, printed_facts, printed_line}
 
 -- the image of a number of a row
 get_image : (f : ℕ → Text) (first n i e : ℕ) → e ≡ first + i → i < n → slice_get (map f (counted first n)) i ≡ Some (f e)

@@ -44,7 +44,7 @@ arguments_proper tables (suc n) args there count =
     (sym (get_there tables.symbols n (record { name = []; arity = 0 }) (omega arith))) tt
 
 -- facts that fit are shown properly
-facts_proper : (tables : Tables) (names : List Text) (facts : List Atom) → AllByRecursion (FactFits tables) facts
+pub facts_proper : (tables : Tables) (names : List Text) (facts : List Atom) → AllByRecursion (FactFits tables) facts
     → AtomsAreProper (named_facts tables names facts)
 facts_proper tables names facts h =
     each_mapped AtomIsProper (named_atom tables names)
@@ -58,7 +58,7 @@ two_mapped f (x ∷ []) h = h
 two_mapped f (x ∷ y ∷ xs) h = tt
 
 -- a line that fits is shown properly
-line_proper : (tables : Tables) (names : List Text) (l : Line.Line) → LineFits tables l → LineIsProper (shown_line tables names l)
+pub line_proper : (tables : Tables) (names : List Text) (l : Line.Line) → LineFits tables l → LineIsProper (shown_line tables names l)
 line_proper tables names (line.Facts facts) h = facts_proper tables names facts h
 line_proper tables names (line.Cases lists) h = (
   two_mapped (named_facts tables names) lists h.0,

@@ -30,7 +30,8 @@ use Rattle.proof_text.specs.declared.body.EndText.TheBlock.{shape-the_row-CaseTe
 use Rattle.proof_text.specs.declared.part.Edition as Edition
 use Rattle.proof_text.specs.declared.part.Edition.TheVariants.{First, Second}
 use Rattle.proof_text.specs.Branches.{Branch, shown_line, given_line}
-use Rattle.proof_text.specs.ScriptOf.{printed, names_in, form_of, variables_of, binds_of, args_of, after_step_of, step_of, steps_of, after_steps, lists_in, end_of, cases_of, script_of}
+use Rattle.proof_text.specs.Printing.{printed}
+use Rattle.proof_text.specs.ScriptOf.{names_in, form_of, variables_of, binds_of, args_of, after_step_of, step_of, steps_of, after_steps, lists_in, end_of, cases_of, script_of}
 use Rattle.proof_text.specs.StandsFor.{Gives, EachGiven, ArgsStand, StepStands, StepsStand, EndStands, CasesStand, Stands}
 use Rattle.proof_text.proofs.PrintedNames.{names_append, element_named, elements_named, names_new, start_named, parameters_new}
 use Rattle.proof_text.proofs.Rows.{row_of, Cs_opens}

@@ -44,7 +44,7 @@ use Rattle.proof_text.proofs.Rows.{row_of, Cs_opens}
 use Rattle.proof_text.proofs.Valued.{RowsHold, value_holds}
 
 -- a case is proper where its facts and its body are
-abbrev CaseIsProper : Edition.Edition → CaseText → Type 0
+abbrev pub CaseIsProper : Edition.Edition → CaseText → Type 0
 CaseIsProper e case = IsShownIn e AtomsAreProper case.shown × BodyIsProper e case.body
 
 -- the row of proper cases is proper
@@ -59,7 +59,7 @@ unfolding row_of shape-the_row-CaseText-0
 has_case c cs = tt
 
 -- a split of proper cases is proper
-Cs_proper : (e : Edition.Edition) (line : ℕ) (c : CaseText) (cs : List CaseText) → AllByRecursion (CaseIsProper e) (c ∷ cs) →
+pub Cs_proper : (e : Edition.Edition) (line : ℕ) (c : CaseText) (cs : List CaseText) → AllByRecursion (CaseIsProper e) (c ∷ cs) →
     EndIsProper e (Cs line (c ∷ cs))
 Cs_proper e line c cs h =
     subst (EndIsProper e) (sym (Cs_opens line (c ∷ cs))) (has_case c cs, cases_proper e (c ∷ cs) h)

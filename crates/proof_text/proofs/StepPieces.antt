@@ -38,7 +38,9 @@ use Rattle.proof_text.specs.declared.part.Pass.TheVariants as pass
 use Rattle.proof_text.specs.Fixed.{fixed_text, dollar_of, is_keyword}
 use Rattle.proof_text.specs.Marks.{fixed_or, most_number}
 use Rattle.proof_text.specs.Values.{name_in, number_in, listed_step, named_step}
-use Rattle.proof_text.specs.Canonical.{listed_text, names_text, line_text, rank_text, symbol_text, sign_text, cite_text, bind_text, args_text, given_text, indent, line_end, step_text}
+use Rattle.proof_text.specs.declared.wording.Wording.TheVariants.{Signs}
+use Rattle.proof_text.specs.Lines.{listed_text, names_text, line_text}
+use Rattle.proof_text.specs.Canonical.{rank_text, symbol_text, sign_text, cite_text, bind_text, args_text, given_text, indent, line_end, step_text}
 use Rattle.proof_text.specs.Named.{NamesAreNamed, LineIsNamed, SymbolIsNamed, CiteIsNamed, BindIsNamed, ArgsAreNamed, ShownIsNamed, StepIsNamed}
 use Rattle.proof_text.specs.Proper.{LineIsProper, IsShownIn, BindIsProper, ArgsAreProper, StepIsProper}
 use Rattle.proof_text.proofs.Standing.{Spells}
@@ -249,12 +251,12 @@ given_piece First None named proper = absurd proper
 given_piece Second None named proper =
     rule_piece (rule.Given Second) (inr (inl tt)) (tt, tt) None (λ all values mean. refl) (and_last tt (dot_piece act.EndBareStep))
 given_piece First (Some line) named proper =
-    as_text (behind_two (codes " gives ") (line_text line) line_end)
+    as_text (behind_two (codes " gives ") (line_text Signs line) line_end)
     (rule_piece (rule.Given First) (inl tt) (tt, (line, (tt, tt))) (Some line) (λ all values mean. ap Some mean.1.0)
     (and_then tt (line, (tt, tt)) (blank_before (led_keyword fixed.Gives act.KeepFresh refl refl))
     (and_then line (tt, tt) (line_piece line named proper) (and_last tt (dot_piece act.EndStep)) (λ rest may. refl)) (λ rest may. tt)))
 given_piece Second (Some line) named proper =
-    as_text (behind_two (codes " gives ") (line_text line) line_end)
+    as_text (behind_two (codes " gives ") (line_text Signs line) line_end)
     (rule_piece (rule.Given Second) (inl tt) (tt, (line, (tt, tt))) (Some line) (λ all values mean. ap Some mean.1.0)
     (and_then tt (line, (tt, tt)) (blank_before (led_keyword fixed.Gives act.KeepFresh refl refl))
     (and_then line (tt, tt) (line_piece line named proper) (and_last tt (dot_piece act.EndStep)) (λ rest may. refl)) (λ rest may. tt)))

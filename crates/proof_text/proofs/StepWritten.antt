@@ -18,8 +18,9 @@ use Rattle.proof_text.specs.declared.body.Shown as Shown
 use Rattle.proof_text.specs.declared.body.MpText.{MpText}
 use Rattle.proof_text.specs.declared.part.Edition as Edition
 use Rattle.proof_text.specs.Branches.{shown_line, given_line}
-use Rattle.proof_text.specs.ScriptOf.{printed, names_in, form_of, cite_of, variables_of, args_of, after_step_of, step_of, steps_of, after_steps}
-use Rattle.proof_text.specs.Showing.{LineFits, IsInside, MayStep, MaySteps, printed_line}
+use Rattle.proof_text.specs.ScriptOf.{names_in, form_of, cite_of, variables_of, args_of, fresh_of, line_by, after_step_of, step_of, steps_of, after_steps}
+use Rattle.proof_text.specs.Showing.{LineFits, IsInside, MayStep, MaySteps}
+use Rattle.proof_text.specs.Printing.{printed, printed_line}
 use Rattle.proof_text.proofs.Inside.{given_fits, step_inside, next_may}
 use Rattle.proof_text.proofs.PrintedLines.{line_shown}
 use Rattle.proof_text.proofs.ScriptStands.{form_same}
@@ -56,23 +57,22 @@ module _ (task : CitedTask) (context : Context) (step : Mp) where
         (given_fits task right (form_of task step.form) step.form (step.args ++ counted context.elements (form_of task step.form).existentials) there)
 
     -- the line is shown with printed names
-    line_given_shown : IsInside task context → (line : Line.Line) → line ≡ given_line context (form_of task step.form) step.args
-        → printed_line task line ≡ shown_line task.tables (names_in task (after_step_of task context step)) (given_line context (form_of task step.form) step.args)
-    line_given_shown inside line is =
+    line_given_shown : IsInside task context
+        → printed_line task (line_by task context step) ≡ shown_line task.tables (names_in task (after_step_of task context step)) (line_by task context step)
+    line_given_shown inside =
         let after = step_inside task right context step inside may in
-        let given : Line.Line = given_line context (form_of task step.form) step.args in
+        let given : Line.Line = line_by task context step in
         let below = each_back (LineIsBelow (after_step_of task context step).elements) context.lines (given ∷ []) after.is.lines in
-        ap (printed_line task) is ∙ sym (line_shown task (after_step_of task context step).elements given below.0)
+        sym (line_shown task (after_step_of task context step).elements given below.0)
 
     -- the parts of a step make the step
     pub step_written : IsInside task context → (e : Edition.Edition) (cite : Citation) (args : ArgsText.ArgsText) (names : List Text) (shown : Shown.Shown)
-        (line : Line.Line) → slice_get task.citations step.form ≡ Some cite → args ≡ args_of e task (variables_of task step.form) step.args
-        → names ≡ map (printed task) (counted context.elements (form_of task step.form).existentials)
-        → shown ≡ printed_line task line → line ≡ given_line context (form_of task step.form) step.args
+        → slice_get task.citations step.form ≡ Some cite → args ≡ args_of e task (variables_of task step.form) step.args
+        → names ≡ map (printed task) (fresh_of task context step) → shown ≡ printed_line task (line_by task context step)
         → record { cite = cite; args = args; fresh = names; shown = Some shown } ≡ step_of e task context step
-    step_written inside e cite args names shown line cite_is args_are names_are shown_is is =
+    step_written inside e cite args names shown cite_is args_are names_are shown_is =
         let cited = cite_same task step.form cite cite_is in
-        let show = shown_is ∙ line_given_shown inside line is in
+        let show = shown_is ∙ line_given_shown inside in
         λ i. record { cite = cited i; args = args_are i; fresh = names_are i; shown = Some (show i) }
 
   -- the context behind a step
@@ -95,16 +95,16 @@ dropped [] n x below is = absurd (omega arith)
 dropped (y ∷ xs) zero x below is = ap (λ z. z ∷ xs) (sym is)
 dropped (y ∷ xs) (suc n) x below is = rw add-one (let rest = dropped xs n x (omega arith) is in rw add-one at rest)
 
-module _ (e : Edition.Edition) (task : CitedTask) (step : Mp) (rest left : List Mp) (left_is : left ≡ step ∷ rest) (before after : Context)
+module _ (task : CitedTask) (step : Mp) (rest left : List Mp) (left_is : left ≡ step ∷ rest) (before after : Context)
     (after_is : after ≡ after_step_of task before step) where
   -- behind the first of the steps that are left the others may be taken
   pub others_may : MaySteps task left before → MaySteps task rest after
   others_may may = subst (MaySteps task rest) (sym after_is) (next_may task step rest before (subst (λ (ss : List Mp). MaySteps task ss before) left_is may))
 
   -- the first of the steps that are left is written behind those before
-  pub next_written : (texts longer all : List MpText) (text : MpText) → text ≡ step_of e task before step → longer ≡ texts ++ text ∷ []
+  pub next_written : (e : Edition.Edition) (texts longer all : List MpText) (text : MpText) → text ≡ step_of e task before step → longer ≡ texts ++ text ∷ []
       → texts ++ steps_of e task left before ≡ all → longer ++ steps_of e task rest after ≡ all
-  next_written texts longer all text text_is longer_is so_far =
+  next_written e texts longer all text text_is longer_is so_far =
       (λ i. longer_is i ++ steps_of e task rest (after_is i))
       ∙ append_assoc texts (text ∷ []) (steps_of e task rest (after_step_of task before step))
       ∙ (λ i. texts ++ text_is i ∷ steps_of e task rest (after_step_of task before step))

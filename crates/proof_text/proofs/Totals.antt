@@ -75,7 +75,7 @@ row_deepest_of level [] = refl
 row_deepest_of level (c ∷ cs) = ap (λ (k : ℕ). max (end_deepest level c.body.end) k) (row_deepest_of level cs)
 
 -- the deepest split of a split that code builds
-Cs_deepest : (level line : ℕ) (cs : List CaseText) →
+pub Cs_deepest : (level line : ℕ) (cs : List CaseText) →
     end_deepest level (Cs line cs) ≡ max (level + 1) (deepest_in (level + 1) cs)
 Cs_deepest level line cs =
     ap (end_deepest level) (Cs_opens line cs) ∙ ap (λ (k : ℕ). max (level + 1) k) (row_deepest_of (level + 1) cs)

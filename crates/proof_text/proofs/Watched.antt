@@ -76,7 +76,7 @@ within_start (p ∷ ps) [] s h = h
 within_start (p ∷ ps) (t ∷ ts) s h = within_before p t s (within_start ps ts (looks p t s) h)
 
 -- a count below the limit goes on
-counted_passes : (s : Tally) → s.applications + 1 ≤ MOST_APPLICATIONS → counted s ≡ Ok (record s { applications = s.applications + 1 })
+pub counted_passes : (s : Tally) → s.applications + 1 ≤ MOST_APPLICATIONS → counted s ≡ Ok (record s { applications = s.applications + 1 })
 counted_passes s h = by_test (nat_lt s.applications MOST_APPLICATIONS) refl
   where
     by_test : (b : Bool) → nat_lt s.applications MOST_APPLICATIONS ≡ b →
@@ -85,7 +85,7 @@ counted_passes s h = by_test (nat_lt s.applications MOST_APPLICATIONS) refl
     by_test false is = absurd (grind (arith, is, h))
 
 -- a split below the limit opens
-opened_passes : (s : Tally) → s.splits + 1 ≤ MOST_SPLITS → opened s ≡ Ok (record s { splits = s.splits + 1 })
+pub opened_passes : (s : Tally) → s.splits + 1 ≤ MOST_SPLITS → opened s ≡ Ok (record s { splits = s.splits + 1 })
 opened_passes s h = by_test (nat_lt s.splits MOST_SPLITS) refl
   where
     by_test : (b : Bool) → nat_lt s.splits MOST_SPLITS ≡ b →
@@ -116,7 +116,7 @@ run_passes (p ∷ ps) (t ∷ ts) s e h =
     (tally_of (looks p t s), look_passes p t s (within_start ps ts (looks p t s) h), run_passes ps ts (looks p t s) (omega (arith, e)) h)
 
 -- a count that goes on was below the limit
-counted_is : (s after : Tally) → counted s ≡ Ok after → (s.applications + 1 ≤ MOST_APPLICATIONS) × (after ≡ record s { applications = s.applications + 1 })
+pub counted_is : (s after : Tally) → counted s ≡ Ok after → (s.applications + 1 ≤ MOST_APPLICATIONS) × (after ≡ record s { applications = s.applications + 1 })
 counted_is s after e = by_test (nat_lt s.applications MOST_APPLICATIONS) refl e
   where
     by_test : (b : Bool) → nat_lt s.applications MOST_APPLICATIONS ≡ b →
@@ -126,7 +126,7 @@ counted_is s after e = by_test (nat_lt s.applications MOST_APPLICATIONS) refl e
     by_test false is e = cc
 
 -- a split that opens was below the limit
-opened_is : (s after : Tally) → opened s ≡ Ok after → (s.splits + 1 ≤ MOST_SPLITS) × (after ≡ record s { splits = s.splits + 1 })
+pub opened_is : (s after : Tally) → opened s ≡ Ok after → (s.splits + 1 ≤ MOST_SPLITS) × (after ≡ record s { splits = s.splits + 1 })
 opened_is s after e = by_test (nat_lt s.splits MOST_SPLITS) refl e
   where
     by_test : (b : Bool) → nat_lt s.splits MOST_SPLITS ≡ b →

@@ -3,14 +3,13 @@
 use Rattle.std.specs.Prelude.{ℕ, zero, suc, ◌==◌, Bool, true, false, List, [], ◌∷◌, ◌++◌, map, Option, Some, None, codes, if◌then◌else◌}
 use Rattle.std.specs.Fmt.{decimal}
 use Rattle.text_core.specs.Names.{Text}
-use Rattle.tptp_lexer.specs.Written.{word_text, name_text, joined_texts}
+use Rattle.tptp_lexer.specs.Written.{word_text, name_text}
 use Rattle.coherent_form.specs.declared.citation.Citation as Citation
 use Rattle.coherent_form.specs.declared.citation.Citation.TheVariants.{Axiom, Refl, Sym, Trans, Sub, No, Or}
 use Rattle.coherent_form.specs.declared.citation.Symbol as Symbol
 use Rattle.coherent_form.specs.declared.citation.Symbol.TheVariants.{Equality, Named as NamedSymbol}
 use Rattle.proof_text.specs.declared.body.NamedAtom.{NamedAtom}
 use Rattle.proof_text.specs.declared.body.Shown as Shown
-use Rattle.proof_text.specs.declared.body.Shown.TheVariants.{Falsum, Facts, Cases}
 use Rattle.proof_text.specs.declared.body.Binding.{Binding}
 use Rattle.proof_text.specs.declared.body.ArgsText as ArgsText
 use Rattle.proof_text.specs.declared.body.ArgsText.TheVariants.{Listed, Named}
@@ -18,51 +17,9 @@ use Rattle.proof_text.specs.declared.body.MpText.{MpText}
 use Rattle.proof_text.specs.declared.body.CaseText.{CaseText}
 use Rattle.proof_text.specs.declared.body.BodyText.{BodyText}
 use Rattle.proof_text.specs.declared.body.EndText.{EndText, As, Efq, Gap, Cs', Row_of-CaseText, end_of-CaseText, more_of-CaseText}
+use Rattle.proof_text.specs.declared.wording.Wording.TheVariants.{Signs}
+use Rattle.proof_text.specs.Lines.{listed_text, names_text, facts_text, line_text}
 use Rattle.proof_text.specs.Values.{Written}
-
--- texts with commas between them
-abbrev pub listed_text : List Text → Text
-listed_text texts = joined_texts (codes ",") texts
-
--- names in brackets
-abbrev pub names_text : List Text → Text
-names_text names = codes "[" ++ listed_text (map word_text names) ++ codes "]"
-
--- the arguments of an atom; nothing where there are none
-abbrev pub arguments_text : List Text → Text
-arguments_text [] = []
-arguments_text (x ∷ xs) = codes "(" ++ listed_text (map word_text (x ∷ xs)) ++ codes ")"
-
--- a predicate with its arguments, or an equation
-abbrev pub predicate_text : Bool → Option Text → List Text → Text
-predicate_text true (Some p) args = word_text p ++ arguments_text args
-predicate_text false (Some p) args = codes "~" ++ word_text p ++ arguments_text args
-predicate_text true None args = joined_texts (codes " = ") (map word_text args)
-predicate_text false None args = joined_texts (codes " != ") (map word_text args)
-
-abbrev pub atom_text : NamedAtom → Text
-atom_text atom = predicate_text atom.positive atom.predicate atom.args
-
--- atoms with a sign between each two
-abbrev pub atoms_text : List NamedAtom → Text
-atoms_text atoms = joined_texts (codes " & ") (map atom_text atoms)
-
--- facts
-abbrev pub facts_text : List NamedAtom → Text
-facts_text [] = codes "$true"
-facts_text (a ∷ atoms) = atoms_text (a ∷ atoms)
-
--- a part of a line of cases: in brackets where it has two atoms or more
-abbrev pub part_text : List NamedAtom → Text
-part_text [] = codes "$true"
-part_text (a ∷ []) = atom_text a
-part_text (a ∷ b ∷ atoms) = codes "(" ++ atoms_text (a ∷ b ∷ atoms) ++ codes ")"
-
--- a line
-abbrev pub line_text : Shown.Shown → Text
-line_text Falsum = codes "$false"
-line_text (Facts atoms) = facts_text atoms
-line_text (Cases parts) = joined_texts (codes " | ") (map part_text parts)
 
 -- a rank behind a name; nothing where it is 1
 abbrev pub rank_text : ℕ → Text
@@ -102,12 +59,12 @@ args_text (Named binds) = codes "with [" ++ listed_text (map bind_text binds) ++
 -- the line of a step, where it is shown
 abbrev pub given_text : Option Shown.Shown → Text
 given_text None = []
-given_text (Some line) = codes " gives " ++ line_text line
+given_text (Some line) = codes " gives " ++ line_text Signs line
 
 -- the facts of a case, where they are shown
 abbrev pub shown_text : Option (List NamedAtom) → Text
 shown_text None = []
-shown_text (Some facts) = codes " " ++ facts_text facts
+shown_text (Some facts) = codes " " ++ facts_text Signs facts
 
 -- two blanks (32) for each case around
 abbrev pub indent : ℕ → Text

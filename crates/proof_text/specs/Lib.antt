@@ -11,9 +11,11 @@ pub mod Sizes
 pub mod Proper
 pub mod Scripts
 pub mod Told
+pub mod Lines
 pub mod Canonical
 pub mod Named
 pub mod Branches
 pub mod StandsFor
+pub mod Printing
 pub mod ScriptOf
 pub mod Showing

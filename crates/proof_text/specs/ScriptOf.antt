@@ -12,7 +12,6 @@ use Rattle.vernacular_tree.specs.declared.tree.Mp.{Mp}
 use Rattle.vernacular_tree.specs.declared.tree.Body.{Body}
 use Rattle.vernacular_tree.specs.declared.tree.End as tree
 use Rattle.vernacular_tree.specs.declared.tree.End.{Row_of-Body, end_of-Body, more_of-Body}
-use Rattle.coherent_form.specs.ElementNames.{element_name}
 use Rattle.coherent_form.specs.Labels.{label_of}
 use Rattle.coherent_form.specs.Tasks.{CitedTask, no_goal, proof_task}
 use Rattle.coherent_form.specs.declared.citation.Citation.{Citation}
@@ -27,13 +26,11 @@ use Rattle.proof_text.specs.declared.body.EndText.{EndText, As, Efq, Cs}
 use Rattle.proof_text.specs.declared.part.Edition as Edition
 use Rattle.proof_text.specs.declared.part.Edition.TheVariants.{First, Second}
 use Rattle.proof_text.specs.Branches.{named_facts, shown_line, given_line}
+use Rattle.proof_text.specs.Printing.{printed}
 use Rattle.proof_text.specs.Proper.{version_number}
 use Rattle.proof_text.specs.Values.{Written}
 
--- the printed name of an element, and those of all elements of a context by number
-abbrev pub printed : CitedTask → ℕ → Text
-printed task element = element_name task.tables.constants element
-
+-- the printed names of all elements of a context by number
 abbrev pub names_in : CitedTask → Context → List Text
 names_in task context = map (printed task) (counted 0 context.elements)
 
@@ -59,18 +56,25 @@ abbrev pub args_of : Edition.Edition → CitedTask → List Text → List ℕ �
 args_of First task variables elements = Listed (map (printed task) elements)
 args_of Second task variables elements = Named (binds_of task variables 0 elements)
 
+-- the elements that a step adds, and the line that it gives
+abbrev pub fresh_of : CitedTask → Context → Mp → List ℕ
+fresh_of task context step = counted context.elements (form_of task step.form).existentials
+
+abbrev pub line_by : CitedTask → Context → Mp → Line.Line
+line_by task context step = given_line context (form_of task step.form) step.args
+
 -- where the proof goes on after a step
 abbrev pub after_step_of : CitedTask → Context → Mp → Context
 after_step_of task context step = after_mp context (form_of task step.form) step.args
 
 -- a step
 abbrev pub step_of : Edition.Edition → CitedTask → Context → Mp → MpText
-step_of e task context step = let form = form_of task step.form in record {
+step_of e task context step = record {
   cite = cite_of task step.form;
   args = args_of e task (variables_of task step.form) step.args;
-  fresh = map (printed task) (counted context.elements form.existentials);
+  fresh = map (printed task) (fresh_of task context step);
   shown = Some (shown_line task.tables (names_in task (after_step_of task context step))
-      (given_line context form step.args));
+      (line_by task context step));
 }
 
 -- steps in order, and the context after them

@@ -1,7 +1,6 @@
 -- How the parts of a proof are written one after another, and what holds of a context inside it.
-use Rattle.std.specs.Prelude.{◌≡◌, List, [], ◌∷◌, map, slice_get, Some}
+use Rattle.std.specs.Prelude.{◌≡◌, List, [], ◌∷◌, slice_get, Some}
 use Rattle.std.specs.List.{AllByRecursion}
-use Rattle.text_core.specs.Names.{Text}
 use Rattle.text_core.specs.Numbered.{Tables}
 use Rattle.logic_core.specs.declared.form.Slot.{Slot}
 use Rattle.logic_core.specs.declared.form.Slot.TheVariants.{Variable, Constant}
@@ -17,35 +16,11 @@ use Rattle.vernacular_tree.specs.declared.tree.Mp.{Mp}
 use Rattle.vernacular_tree.specs.declared.tree.Body.{Body}
 use Rattle.coherent_form.specs.Fitting.{AtomFits}
 use Rattle.coherent_form.specs.Tasks.{CitedTask, proof_task}
-use Rattle.proof_text.specs.declared.body.NamedAtom.{NamedAtom}
-use Rattle.proof_text.specs.declared.body.Shown as Shown
-use Rattle.proof_text.specs.declared.body.Shown.TheVariants as shown
 use Rattle.proof_text.specs.declared.body.CaseText.{CaseText}
 use Rattle.proof_text.specs.declared.part.Edition as Edition
-use Rattle.proof_text.specs.Branches.{predicate_of, named_facts}
+use Rattle.proof_text.specs.Branches.{named_facts}
 use Rattle.proof_text.specs.Proper.{HasTwo}
-use Rattle.proof_text.specs.ScriptOf.{printed, names_in, first_list, other_lists, body_of}
-
--- the printed name of an argument of a line's atom
-abbrev pub printed_slot : CitedTask → Slot → Text
-printed_slot task (Variable i) = []
-printed_slot task (Constant e) = printed task e
-
--- an atom of a line, facts and a line, with printed names
-abbrev pub printed_atom : CitedTask → Atom → NamedAtom
-printed_atom task atom = record {
-  positive = atom.positive;
-  predicate = predicate_of task.tables atom.symbol;
-  args = map (printed_slot task) atom.args;
-}
-
-abbrev pub printed_facts : CitedTask → List Atom → List NamedAtom
-printed_facts task facts = map (printed_atom task) facts
-
-abbrev pub printed_line : CitedTask → Line.Line → Shown.Shown
-printed_line task (line.Facts facts) = shown.Facts (printed_facts task facts)
-printed_line task (line.Cases lists) = shown.Cases (map (printed_facts task) lists)
-printed_line task line.Falsum = shown.Falsum
+use Rattle.proof_text.specs.ScriptOf.{names_in, first_list, other_lists, body_of}
 
 -- an argument of a line's atom is an element
 abbrev pub IsElement : Slot → Type 0

@@ -67,7 +67,7 @@ pub struct ScriptBuilder {
 
 impl ScriptBuilder {
     /// A builder that has read nothing.
-    pub(crate) fn new(alloc: Global) -> ScriptBuilder {
+    pub fn new(alloc: Global) -> ScriptBuilder {
         ScriptBuilder {
             alloc,
             version: 0,
@@ -101,6 +101,13 @@ impl ScriptBuilder {
         Script::new(self.version, self.take, self.body)
     }
 
+    /// The body that was last read.
+    pub fn into_body(self) -> BodyText
+        ensures { result ≡ self.body }
+    {
+        self.body
+    }
+
     // Empties the registers of a step and of a line.
     fn clear(&mut self)
         ensures { self.new ≡ spec.cleared self.old }
@@ -119,8 +126,8 @@ impl ScriptBuilder {
         self.line = None;
     }
 
-    // Sets the citation.
-    fn set_cite(&mut self, cite: Citation)
+    /// Sets the citation.
+    pub fn set_cite(&mut self, cite: Citation)
         ensures { self.new ≡ spec.cited cite self.old }
     {
         self.word = None;
@@ -374,8 +381,8 @@ impl ScriptBuilder {
         }
     }
 
-    // Does what is to be done at a token that tells nothing more.
-    fn act(&mut self, act: Act) -> Result<(), Memory>
+    /// Does what is to be done at a token that tells nothing more. `Memory` is want of memory.
+    pub fn act(&mut self, act: Act) -> Result<(), Memory>
         ensures { IfOk result (λ _. self.new ≡ spec.acted act self.old) }
     {
         match act {
@@ -415,8 +422,8 @@ impl ScriptBuilder {
         Ok(())
     }
 
-    // Does what is to be done where nothing stands.
-    fn do_pass(&mut self, pass: Pass) -> Result<(), Memory>
+    /// Does what is to be done where nothing stands. `Memory` is want of memory.
+    pub fn do_pass(&mut self, pass: Pass) -> Result<(), Memory>
         ensures { IfOk result (λ _. self.new ≡ spec.passed pass self.old) }
     {
         match pass {
@@ -437,8 +444,8 @@ impl ScriptBuilder {
         Ok(())
     }
 
-    // Does what is to be done at a name.
-    fn read_name(&mut self, use_of: Naming, name: Name) -> Result<(), Memory>
+    /// Does what is to be done at a name. `Memory` is want of memory.
+    pub fn read_name(&mut self, use_of: Naming, name: Name) -> Result<(), Memory>
         ensures { IfOk result (λ _. self.new ≡ spec.named use_of name self.old) }
     {
         match use_of {
@@ -455,8 +462,8 @@ impl ScriptBuilder {
         Ok(())
     }
 
-    // Does what is to be done at a number.
-    fn read_number(&mut self, use_of: Counting, number: u32)
+    /// Does what is to be done at a number.
+    pub fn read_number(&mut self, use_of: Counting, number: u32)
         ensures { self.new ≡ spec.numbered use_of number self.old }
     {
         match use_of {

@@ -59,12 +59,8 @@ fn atom_at(alloc: Global, elements: &[u32], atom: &Atom) -> Result<Atom, Memory>
     })
 }
 
-// Atoms of a form at elements for the form's variables.
-pub(crate) fn facts_at(
-    alloc: Global,
-    elements: &[u32],
-    atoms: &[Atom],
-) -> Result<List<Atom>, Memory>
+/// Atoms of a form at elements for the form's variables. `Memory` is want of memory.
+pub fn facts_at(alloc: Global, elements: &[u32], atoms: &[Atom]) -> Result<List<Atom>, Memory>
     ensures { IfOk result (λ facts. facts ≡ map (contexts.atom_at elements.now) atoms.now) }
 {
     let mut facts = List::new(alloc);

@@ -1,20 +1,21 @@
 //! How names, atoms and lines are written.
 
-ghost use Rattle.std.specs.Prelude.{◌≡◌, ◌++◌, ◌≤◌, map, codes, OnOk};
+ghost use Rattle.std.specs.Prelude.{◌≡◌, ◌++◌, ◌≤◌, map, OnOk};
 ghost use Rattle.std.specs.Fmt.{decimal};
 ghost use Rattle.tptp_lexer.specs.Written.{word_text, joined_texts};
 ghost use Rattle.std.specs.List.{AllByRecursion};
-ghost use Rattle.proof_text.specs.Canonical as canonical;
+ghost use Rattle.proof_text.specs.Lines as lines;
 ghost use Rattle.proof_text.specs.Marks.{most_number};
 ghost use Rattle.proof_text.specs.Named.{AtomIsNamed, AtomsAreNamed, LineIsNamed, NamesAreNamed};
 
 use crate::body::{NamedAtom, Shown};
+use crate::wording::Wording;
 use std::alloc::Global;
 use text_core::{Bytes, List, Memory, Name};
 use tptp_lexer::put_word;
 
-/// Appends a number in decimal.
-pub(crate) fn put_number(alloc: Global, number: u32, out: &mut Bytes) -> Result<(), Memory>
+/// Appends a number in decimal. `Memory` is want of memory.
+pub fn put_number(alloc: Global, number: u32, out: &mut Bytes) -> Result<(), Memory>
     ensures text { OnOk result (out.new ≡ out.old ++ decimal number) }
     ensures named { OnOk result (number ≤ most_number) }
 {
@@ -22,9 +23,9 @@ pub(crate) fn put_number(alloc: Global, number: u32, out: &mut Bytes) -> Result<
     out.extend_from_slice(digits.as_bytes())
 }
 
-/// Appends words with a separator between each two.
+/// Appends words with a separator between each two. `Memory` is want of memory.
 #[tactic(auto, using(tptp_lexer::proofs::Laws::joined_led))]
-pub(crate) fn put_words(names: &[Name], separator: &[u8], out: &mut Bytes) -> Result<(), Memory>
+pub fn put_words(names: &[Name], separator: &[u8], out: &mut Bytes) -> Result<(), Memory>
     ensures text { OnOk result (out.new ≡ out.old ++
         joined_texts separator.now (map word_text names.now)) }
     ensures named { OnOk result (NamesAreNamed names.now) }
@@ -40,7 +41,7 @@ pub(crate) fn put_words(names: &[Name], separator: &[u8], out: &mut Bytes) -> Re
 
 /// Appends names in brackets.
 pub(crate) fn put_names(names: &List<Name>, out: &mut Bytes) -> Result<(), Memory>
-    ensures text { OnOk result (out.new ≡ out.old ++ canonical.names_text names.now) }
+    ensures text { OnOk result (out.new ≡ out.old ++ lines.names_text names.now) }
     ensures named { OnOk result (NamesAreNamed names.now) }
 {
     out.push(b'[')?;
@@ -50,7 +51,7 @@ pub(crate) fn put_names(names: &List<Name>, out: &mut Bytes) -> Result<(), Memor
 
 // Appends the arguments of an atom.
 fn put_arguments(args: &[Name], out: &mut Bytes) -> Result<(), Memory>
-    ensures text { OnOk result (out.new ≡ out.old ++ canonical.arguments_text args.now) }
+    ensures text { OnOk result (out.new ≡ out.old ++ lines.arguments_text args.now) }
     ensures named { OnOk result (NamesAreNamed args.now) }
 {
     if args.is_empty() {
@@ -62,8 +63,8 @@ fn put_arguments(args: &[Name], out: &mut Bytes) -> Result<(), Memory>
 }
 
 // Appends an atom.
-fn put_atom(atom: &NamedAtom, out: &mut Bytes) -> Result<(), Memory>
-    ensures text { OnOk result (out.new ≡ out.old ++ canonical.atom_text atom.now) }
+fn put_atom(wording: Wording, atom: &NamedAtom, out: &mut Bytes) -> Result<(), Memory>
+    ensures text { OnOk result (out.new ≡ out.old ++ lines.atom_text wording atom.now) }
     ensures named { OnOk result (AtomIsNamed atom.now) }
 {
     let args = atom.args.as_slice();
@@ -73,7 +74,7 @@ fn put_atom(atom: &NamedAtom, out: &mut Bytes) -> Result<(), Memory>
             put_arguments(args, out)
         }
         (false, Some(predicate)) => {
-            out.push(b'~')?;
+            out.extend_from_slice(wording.negation())?;
             put_word(predicate, out)?;
             put_arguments(args, out)
         }
@@ -82,72 +83,74 @@ fn put_atom(atom: &NamedAtom, out: &mut Bytes) -> Result<(), Memory>
     }
 }
 
-// Appends atoms with a sign between each two.
+// Appends atoms with a separator between each two.
 #[tactic(auto, using(tptp_lexer::proofs::Laws::joined_led))]
-fn put_atoms(atoms: &[NamedAtom], out: &mut Bytes) -> Result<(), Memory>
-    ensures text { OnOk result (out.new ≡ out.old ++ canonical.atoms_text atoms.now) }
+fn put_atoms(wording: Wording, atoms: &[NamedAtom], out: &mut Bytes) -> Result<(), Memory>
+    ensures text { OnOk result (out.new ≡ out.old ++ lines.atoms_text wording atoms.now) }
     ensures named { OnOk result (AtomsAreNamed atoms.now) }
 {
+    let separator = wording.conjunction();
     let mut before: &[u8] = b"";
     for atom in atoms {
         out.extend_from_slice(before)?;
-        put_atom(atom, out)?;
-        before = b" & ";
+        put_atom(wording, atom, out)?;
+        before = separator;
     }
     Ok(())
 }
 
-/// Appends facts.
-pub(crate) fn put_facts(atoms: &List<NamedAtom>, out: &mut Bytes) -> Result<(), Memory>
-    ensures text { OnOk result (out.new ≡ out.old ++ canonical.facts_text atoms.now) }
+/// Appends facts. `Memory` is want of memory.
+pub fn put_facts(wording: Wording, atoms: &List<NamedAtom>, out: &mut Bytes) -> Result<(), Memory>
+    ensures text { OnOk result (out.new ≡ out.old ++ lines.facts_text wording atoms.now) }
     ensures named { OnOk result (AtomsAreNamed atoms.now) }
 {
     match atoms.as_slice() {
-        [] => out.extend_from_slice(b"$true"),
-        atoms => put_atoms(atoms, out),
+        [] => out.extend_from_slice(wording.truth()),
+        atoms => put_atoms(wording, atoms, out),
     }
 }
 
 // Appends a part of a line of cases.
-fn put_part(atoms: &List<NamedAtom>, out: &mut Bytes) -> Result<(), Memory>
-    ensures text { OnOk result (out.new ≡ out.old ++ canonical.part_text atoms.now) }
+fn put_part(wording: Wording, atoms: &List<NamedAtom>, out: &mut Bytes) -> Result<(), Memory>
+    ensures text { OnOk result (out.new ≡ out.old ++ lines.part_text wording atoms.now) }
     ensures named { OnOk result (AtomsAreNamed atoms.now) }
 {
     match atoms.as_slice() {
-        [] => out.extend_from_slice(b"$true"),
-        [atom] => put_atom(atom, out),
+        [] => out.extend_from_slice(wording.truth()),
+        [atom] => put_atom(wording, atom, out),
         atoms => {
             out.push(b'(')?;
-            put_atoms(atoms, out)?;
+            put_atoms(wording, atoms, out)?;
             out.push(b')')
         }
     }
 }
 
-// Appends parts with bars between them.
+// Appends parts with a separator between each two.
 #[tactic(auto, using(tptp_lexer::proofs::Laws::joined_led))]
-fn put_parts(parts: &[List<NamedAtom>], out: &mut Bytes) -> Result<(), Memory>
-    ensures text { OnOk result (out.new ≡ out.old ++ joined_texts (codes " | ")
-        (map canonical.part_text parts.now)) }
+fn put_parts(wording: Wording, parts: &[List<NamedAtom>], out: &mut Bytes) -> Result<(), Memory>
+    ensures text { OnOk result (out.new ≡ out.old ++ joined_texts
+        (lines.disjunction wording) (map (lines.part_text wording) parts.now)) }
     ensures named { OnOk result (AllByRecursion AtomsAreNamed parts.now) }
 {
+    let separator = wording.disjunction();
     let mut before: &[u8] = b"";
     for part in parts {
         out.extend_from_slice(before)?;
-        put_part(part, out)?;
-        before = b" | ";
+        put_part(wording, part, out)?;
+        before = separator;
     }
     Ok(())
 }
 
-/// Appends a line.
-pub(crate) fn put_line(line: &Shown, out: &mut Bytes) -> Result<(), Memory>
-    ensures text { OnOk result (out.new ≡ out.old ++ canonical.line_text line.now) }
+/// Appends a line. `Memory` is want of memory.
+pub fn put_line(wording: Wording, line: &Shown, out: &mut Bytes) -> Result<(), Memory>
+    ensures text { OnOk result (out.new ≡ out.old ++ lines.line_text wording line.now) }
     ensures named { OnOk result (LineIsNamed line.now) }
 {
     match line {
-        Shown::Falsum => out.extend_from_slice(b"$false"),
-        Shown::Facts(atoms) => put_facts(atoms, out),
-        Shown::Cases(parts) => put_parts(parts.as_slice(), out),
+        Shown::Falsum => out.extend_from_slice(wording.falsehood()),
+        Shown::Facts(atoms) => put_facts(wording, atoms, out),
+        Shown::Cases(parts) => put_parts(wording, parts.as_slice(), out),
     }
 }

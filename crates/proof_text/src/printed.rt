@@ -1,8 +1,8 @@
 ghost use Rattle.std.specs.Prelude.{◌≡◌, ◌+◌, ◌<◌, length, map, IfOk};
 ghost use Rattle.std.specs.List.{AllByRecursion};
 ghost use Rattle.proof_text.specs.Branches.{predicate_of};
-ghost use Rattle.proof_text.specs.ScriptOf.{printed};
-ghost use Rattle.proof_text.specs.Showing.{IsElement, FactFits, LineFits, printed_slot, printed_atom, printed_facts, printed_line};
+ghost use Rattle.proof_text.specs.Printing.{printed, printed_slot, printed_atom, printed_facts, printed_line};
+ghost use Rattle.proof_text.specs.Showing.{IsElement, FactFits, LineFits};
 
 use crate::body::{NamedAtom, Shown};
 use coherent_form::Task;
@@ -11,12 +11,8 @@ use std::alloc::Global;
 use text_core::{List, Memory, Name};
 use vernacular_tree::Line;
 
-// The printed names of elements.
-pub(crate) fn element_names(
-    alloc: Global,
-    task: &Task,
-    elements: &[u32],
-) -> Result<List<Name>, Memory>
+/// The printed names of elements. `Memory` is want of memory.
+pub fn element_names(alloc: Global, task: &Task, elements: &[u32]) -> Result<List<Name>, Memory>
     ensures { IfOk result (λ names. names ≡ map (printed task.now) elements.now) }
 {
     let mut names = List::new(alloc);
@@ -71,12 +67,8 @@ fn named_atom(alloc: Global, task: &Task, atom: &Atom) -> Result<NamedAtom, Memo
     })
 }
 
-// Facts with printed names.
-pub(crate) fn named_facts(
-    alloc: Global,
-    task: &Task,
-    facts: &[Atom],
-) -> Result<List<NamedAtom>, Memory>
+/// Facts with printed names. `Memory` is want of memory.
+pub fn named_facts(alloc: Global, task: &Task, facts: &[Atom]) -> Result<List<NamedAtom>, Memory>
     requires { AllByRecursion (FactFits task.now.tables) facts.now }
     ensures { IfOk result (λ named. named ≡ printed_facts task.now facts.now) }
 {
@@ -102,8 +94,8 @@ fn named_lists(
     Ok(named)
 }
 
-// A line with printed names.
-pub(crate) fn named_line(alloc: Global, task: &Task, line: &Line) -> Result<Shown, Memory>
+/// A line with printed names. `Memory` is want of memory.
+pub fn named_line(alloc: Global, task: &Task, line: &Line) -> Result<Shown, Memory>
     requires { LineFits task.now.tables line.now }
     ensures { IfOk result (λ named. named ≡ printed_line task.now line.now) }
 {

@@ -3,6 +3,7 @@ ghost use Rattle.logic_core.specs.declared.form.Atom.{Atom as Fact};
 ghost use Rattle.vernacular_tree.specs.Contexts as contexts;
 ghost use Rattle.vernacular_tree.specs.Rules.{IsProof, Closes, Proves};
 ghost use Rattle.vernacular_tree.specs.declared.context.Line.TheVariants.{Cases};
+ghost use Rattle.coherent_form.specs.Kept.{IsRight};
 ghost use Rattle.coherent_form.specs.Tasks.{proof_task};
 ghost use Rattle.proof_text.specs.Proper.{version_number};
 ghost use Rattle.proof_text.specs.ScriptOf as script;
@@ -21,8 +22,8 @@ use std::alloc::Global;
 use text_core::{List, Memory};
 use vernacular_tree::{Body, Context, End, Line, Proof};
 
-// The facts of a case of a line, counted from 0.
-fn case_facts(
+/// The facts of a case of a line of cases, both counted from 0. `Memory` is want of memory.
+pub fn case_facts(
     alloc: Global,
     context: &Context,
     line: u32,
@@ -146,10 +147,22 @@ fn case_of(
     })
 }
 
-// The context with which a proof of the task begins, with these parameters.
-fn start_context(alloc: Global, task: &Task, parameters: &[u32]) -> Result<Context, Memory>
+/// The parameters of a task. `Memory` is want of memory.
+pub fn parameters_of(alloc: Global, task: &Task) -> Result<List<u32>, Memory>
+    ensures { IfOk result (λ elements. elements ≡ contexts.parameters (proof_task task.now)) }
+{
+    let count = task.goal().universals;
+    counted(alloc, task.start_elements() - count, count)
+}
+
+/// The context with which a proof of a task begins, with its parameters. `Memory` is want of
+/// memory.
+pub fn start_context(alloc: Global, task: &Task, parameters: &[u32]) -> Result<Context, Memory>
     requires { parameters.now ≡ contexts.parameters (proof_task task.now) }
-    ensures { IfOk result (λ context. context ≡ contexts.start_context (proof_task task.now)) }
+    ensures value { IfOk result (λ context.
+        context ≡ contexts.start_context (proof_task task.now)) }
+    ensures inside { IfOk result (λ context. IsInside task.now context) }
+    ensures right { IsRight task.now }
 {
     let mut lines = List::new(alloc);
     let premises = task.goal().premises.as_slice();
@@ -173,8 +186,7 @@ fn script_in(alloc: Global, edition: Edition, task: &Task, proof: &Proof) -> Res
     requires { Proves (proof_task task.now) proof.now }
     ensures { IfOk result (λ written. written ≡ script.script_of edition task.now proof.now) }
 {
-    let count = task.goal().universals;
-    let parameters = counted(alloc, task.start_elements() - count, count)?;
+    let parameters = parameters_of(alloc, task)?;
     let mut context = start_context(alloc, task, parameters.as_slice())?;
     let take = element_names(alloc, task, parameters.as_slice())?;
     let body = body_of(alloc, edition, task, &mut context, proof.body())?;

@@ -1,16 +1,18 @@
 ghost use Rattle.std.specs.Prelude.{◌≡◌, ◌<◌, ◌≤◌, length, map, slice_get, Some, IfOk, OnOk};
 ghost use Rattle.text_core.specs.declared.limits.TheConstants.{MOST_FORM_VARIABLES};
 ghost use Rattle.logic_core.specs.declared.form.Form.{Form};
+ghost use Rattle.coherent_form.specs.Kept.{IsRight};
+ghost use Rattle.proof_text.specs.Printing.{printed, printed_line};
 ghost use Rattle.proof_text.specs.ScriptOf as script;
 ghost use Rattle.proof_text.specs.Showing.{IsInside, MayStep, MaySteps};
 
-use crate::body::{ArgsText, Binding, MpText};
+use crate::body::{ArgsText, Binding, MpText, Shown};
 use crate::given::{counted, line_at, sum_of};
 use crate::part::Edition;
 use crate::printed::{element_names, named_line};
 use coherent_form::Task;
 use std::alloc::Global;
-use text_core::{List, Memory};
+use text_core::{List, Memory, Name};
 use vernacular_tree::{Context, Mp};
 
 // A binding for each universal variable of a form, in order.
@@ -51,6 +53,45 @@ fn args_of(
     }
 }
 
+/// What a step adds: the printed names of its new elements, and its line as it is shown.
+#[derive(Debug, Drop)]
+pub struct Addition {
+    pub fresh: List<Name>,
+    pub line: Shown,
+}
+
+/// Takes a step: tells what it adds, and the context goes on behind it. `Memory` is want of memory,
+/// or of numbers of 32 bits.
+pub fn take_step(
+    alloc: Global,
+    task: &Task,
+    context: &mut Context,
+    step: &Mp,
+) -> Result<Addition, Memory>
+    requires inside { IsInside task.now context.old }
+    requires may { MayStep task.now context.old step.now }
+    ensures fresh { IfOk result (λ added.
+        added.fresh ≡ map (printed task.now) (script.fresh_of task.now context.old step.now)) }
+    ensures line { IfOk result (λ added.
+        added.line ≡ printed_line task.now (script.line_by task.now context.old step.now)) }
+    ensures after { OnOk result (context.new ≡
+        script.after_step_of task.now context.old step.now) }
+    ensures inside { OnOk result (IsInside task.now context.new) }
+    ensures right { IsRight task.now }
+{
+    let form = &task.forms().as_slice()[step.form as usize];
+    let after = sum_of(context.elements, form.existentials)?;
+    let fresh = counted(alloc, context.elements, form.existentials)?;
+    let line = line_at(alloc, form, step.args.as_slice(), fresh.as_slice())?;
+    let added = Addition {
+        fresh: element_names(alloc, task, fresh.as_slice())?,
+        line: named_line(alloc, task, &line)?,
+    };
+    context.elements = after;
+    context.lines.push(line)?;
+    Ok(added)
+}
+
 // A step. The context goes on behind it.
 fn step_of(
     alloc: Global,
@@ -67,19 +108,13 @@ fn step_of(
         script.after_step_of task.now context.old step.now) }
     ensures inside { OnOk result (IsInside task.now context.new) }
 {
-    let form = &task.forms().as_slice()[step.form as usize];
-    let after = sum_of(context.elements, form.existentials)?;
-    let fresh = counted(alloc, context.elements, form.existentials)?;
-    let line = line_at(alloc, form, step.args.as_slice(), fresh.as_slice())?;
-    let text = MpText {
+    let Addition { fresh, line } = take_step(alloc, task, context, step)?;
+    Ok(MpText {
         cite: task.citation(alloc, step.form)?,
         args: args_of(alloc, edition, task, step.form, step.args.as_slice())?,
-        fresh: element_names(alloc, task, fresh.as_slice())?,
-        shown: Some(named_line(alloc, task, &line)?),
-    };
-    context.elements = after;
-    context.lines.push(line)?;
-    Ok(text)
+        fresh,
+        shown: Some(line),
+    })
 }
 
 // Steps in order. The context goes on behind them.

@@ -3,11 +3,13 @@
 ghost use Rattle.std.specs.Prelude.{◌≡◌, ◌++◌, ◌≤◌, map, OnOk};
 ghost use Rattle.std.specs.List.{AllByRecursion};
 ghost use Rattle.proof_text.specs.Canonical as canonical;
+ghost use Rattle.proof_text.specs.Lines as lines;
 ghost use Rattle.proof_text.specs.Marks.{most_number};
 ghost use Rattle.proof_text.specs.Named.{ArgsAreNamed, BindIsNamed, CiteIsNamed, LineIsNamed, ShownIsNamed, StepIsNamed, SymbolIsNamed};
 
 use crate::body::{ArgsText, Binding, MpText, Shown};
 use crate::line_text::{put_line, put_names, put_number};
+use crate::wording::Wording;
 use coherent_form::{Citation, Symbol};
 use std::alloc::Global;
 use text_core::{Bytes, Memory};
@@ -40,8 +42,8 @@ fn put_symbol(alloc: Global, symbol: &Symbol, out: &mut Bytes) -> Result<(), Mem
     }
 }
 
-// Appends a citation.
-fn put_cite(alloc: Global, cite: &Citation, out: &mut Bytes) -> Result<(), Memory>
+/// Appends a citation. `Memory` is want of memory.
+pub fn put_cite(alloc: Global, cite: &Citation, out: &mut Bytes) -> Result<(), Memory>
     ensures text { OnOk result (out.new ≡ out.old ++ canonical.cite_text cite.now) }
     ensures named { OnOk result (CiteIsNamed cite.now) }
 {
@@ -92,7 +94,7 @@ fn put_bind(alloc: Global, bind: &Binding, out: &mut Bytes) -> Result<(), Memory
 // Appends values of variables with commas between them.
 #[tactic(auto, using(tptp_lexer::proofs::Laws::joined_led))]
 fn put_binds(alloc: Global, binds: &[Binding], out: &mut Bytes) -> Result<(), Memory>
-    ensures text { OnOk result (out.new ≡ out.old ++ canonical.listed_text
+    ensures text { OnOk result (out.new ≡ out.old ++ lines.listed_text
         (map canonical.bind_text binds.now)) }
     ensures named { OnOk result (AllByRecursion BindIsNamed binds.now) }
 {
@@ -129,13 +131,13 @@ fn put_given(shown: &Option<Shown>, out: &mut Bytes) -> Result<(), Memory>
         None => Ok(()),
         Some(line) => {
             out.extend_from_slice(b" gives ")?;
-            put_line(line, out)
+            put_line(Wording::Signs, line, out)
         }
     }
 }
 
-/// Appends two blanks for each level.
-pub(crate) fn put_indent(level: u32, out: &mut Bytes) -> Result<(), Memory>
+/// Appends two blanks for each level. `Memory` is want of memory.
+pub fn put_indent(level: u32, out: &mut Bytes) -> Result<(), Memory>
     ensures { OnOk result (out.new ≡ out.old ++ canonical.indent level) }
 {
     let mut left = level;

@@ -118,8 +118,8 @@ fn number_mark(number: u32) -> Integer
     }
 }
 
-// The number that digits write, where it is below 2 ^ 32.
-fn number_in(text: &[u8]) -> Option<u32>
+/// The number that digits write, where it is below 2 ^ 32; `None` where it is not.
+pub fn number_in(text: &[u8]) -> Option<u32>
     ensures { result ≡ marks.number_in text.now }
 {
     let mut number = 0;

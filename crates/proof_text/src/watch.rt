@@ -24,7 +24,7 @@ pub struct Tally {
 
 impl Tally {
     /// Counts a rule word. The error is the limit that is passed.
-    pub(crate) fn count(&mut self) -> Result<(), Limit>
+    pub fn count(&mut self) -> Result<(), Limit>
         ensures { GoesOn (counted self.old) self.new result }
     {
         if self.applications >= MOST_APPLICATIONS {
@@ -35,7 +35,7 @@ impl Tally {
     }
 
     /// Opens a split. The error is the limit that is passed.
-    pub(crate) fn open(&mut self) -> Result<(), Limit>
+    pub fn open(&mut self) -> Result<(), Limit>
         ensures { GoesOn (opened self.old) self.new result }
     {
         if self.splits >= MOST_SPLITS {
@@ -54,7 +54,7 @@ impl Tally {
     }
 
     /// Closes a split.
-    pub(crate) fn close(&mut self)
+    pub fn close(&mut self)
         ensures { self.new ≡ closed self.old }
     {
         self.splits = self.splits.saturating_sub(1);

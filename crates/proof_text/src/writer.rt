@@ -12,6 +12,7 @@ use crate::body::{BodyText, CaseText, EndText, NamedAtom};
 use crate::line_text::{put_facts, put_names, put_number};
 use crate::script::Script;
 use crate::step_text::{put_indent, put_steps};
+use crate::wording::Wording;
 use std::alloc::Global;
 use text_core::{Bytes, List, Memory, Name};
 
@@ -24,7 +25,7 @@ fn put_shown(facts: &Option<List<NamedAtom>>, out: &mut Bytes) -> Result<(), Mem
         None => Ok(()),
         Some(facts) => {
             out.push(b' ')?;
-            put_facts(facts, out)
+            put_facts(Wording::Signs, facts, out)
         }
     }
 }

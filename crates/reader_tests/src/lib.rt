@@ -3,11 +3,15 @@
 #![tactic(auto)]
 
 #[cfg(test)]
+mod english;
+#[cfg(test)]
 mod forms;
 #[cfg(test)]
 mod gaps;
 #[cfg(test)]
 mod inclusions;
+#[cfg(test)]
+mod isar;
 #[cfg(test)]
 mod items;
 #[cfg(test)]

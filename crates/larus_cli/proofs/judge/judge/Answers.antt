@@ -1,12 +1,11 @@
 use Rattle.std.proofs.Common.{◌≡◌, Err, rules}
-use Rattle.larus_cli.proofs.Saying.{names_for, task_both}
+use Rattle.larus_cli.proofs.Saying.{task_both}
 use Rattle.larus_cli.proofs.judge.judge.Goals as goal
 
 pub returns-in_err-task-clause-decides : goal.returns-in_err-task-clause-decides
 returns-in_err-task-clause-decides g c words are =
     let same : c.from_residual.result ≡ Err c.in_err-task.field-0.0 = search rules in
-    rw same (c.in_err-task.ensures.halts words (task_both words c.args.problem.now c.args.name.now
-    (names_for c.args.wanted words c.args.problem.now c.args.name.now are)))
+    rw same (c.in_err-task.ensures.halts words (task_both words c.args.problem.now c.args.format c.args.name.now (c.args.wanted, are)))
 
 pub returns-clause-decides : goal.returns-clause-decides
 returns-clause-decides g c words are =

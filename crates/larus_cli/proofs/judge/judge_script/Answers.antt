@@ -3,15 +3,14 @@ use Rattle.proof_checker.specs.Faults.{IsFault}
 use Rattle.larus_cli.specs.Answers.{step_refused}
 use Rattle.larus_cli.specs.declared.report.Report.TheVariants.{Refused}
 use Rattle.larus_cli.specs.Reports.{IsAnswer}
-use Rattle.larus_cli.proofs.Saying.{names_for}
 use Rattle.larus_cli.proofs.judge.judge_script.Goals as goal
 
 pub returns-in-Ok : goal.returns-in-Ok
-returns-in-Ok c words files later problem second are reads =
-    c.tell_proof.ensures words files later problem second c.args.script.now are (record { reads = reads; accepted = c.in-Ok.ensures.ok })
+returns-in-Ok c words files later problem second format are reads =
+    c.tell_proof.ensures words files later problem second format c.args.script.now are (record { reads = reads; accepted = c.in-Ok.ensures.ok })
 
 pub returns-in-Err-Step : goal.returns-in-Err-Step
-returns-in-Err-Step c words files later problem second are reads =
+returns-in-Err-Step c words files later problem second format are reads =
     let is : IsFault c.args.task.now c.args.script.now c.in-Err-Step.refusal = search rules in
     subst (λ r. IsAnswer words files later (Refused r)) (sym c.in-Err-Step.refusal-is)
-    (step_refused problem second c.args.task.now c.args.script.now c.in-Err-Step.refusal (names_for c.args.wanted words problem second are) reads is)
+    (step_refused problem second format c.args.task.now c.args.script.now c.in-Err-Step.refusal (c.args.wanted, are) reads is)

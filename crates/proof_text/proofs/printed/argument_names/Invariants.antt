@@ -1,6 +1,7 @@
 use Rattle.std.proofs.Common.{◌≡◌, map, take, drop}
 use Rattle.std.specs.List.{AllByRecursion}
-use Rattle.proof_text.specs.Showing.{IsElement, printed_slot}
+use Rattle.proof_text.specs.Showing.{IsElement}
+use Rattle.proof_text.specs.Printing.{printed_slot}
 use Rattle.proof_text.proofs.printed.argument_names.Given as goal
 
 -- the names of the first arguments; the others are elements

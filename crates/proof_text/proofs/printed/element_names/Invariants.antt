@@ -1,5 +1,5 @@
 use Rattle.std.proofs.Common.{◌≡◌, map, take}
-use Rattle.proof_text.specs.ScriptOf.{printed}
+use Rattle.proof_text.specs.Printing.{printed}
 use Rattle.proof_text.proofs.printed.element_names.Given as goal
 
 -- the names of the first elements

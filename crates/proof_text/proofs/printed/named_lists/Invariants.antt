@@ -1,6 +1,7 @@
 use Rattle.std.proofs.Common.{◌≡◌, map, take, drop}
 use Rattle.std.specs.List.{AllByRecursion}
-use Rattle.proof_text.specs.Showing.{FactFits, printed_facts}
+use Rattle.proof_text.specs.Showing.{FactFits}
+use Rattle.proof_text.specs.Printing.{printed_facts}
 use Rattle.proof_text.proofs.printed.named_lists.Given as goal
 
 -- the first lists are written; the others fit

@@ -9,7 +9,8 @@ use Rattle.vernacular_tree.specs.declared.context.Context.{Context}
 use Rattle.vernacular_tree.specs.declared.tree.Mp.{Mp}
 use Rattle.coherent_form.specs.Tasks.{proof_task}
 use Rattle.proof_text.specs.ScriptOf.{after_steps, lists_in}
-use Rattle.proof_text.specs.Showing.{MaySteps, case_of, each_case, printed_facts}
+use Rattle.proof_text.specs.Showing.{MaySteps, case_of, each_case}
+use Rattle.proof_text.specs.Printing.{printed_facts}
 use Rattle.proof_text.proofs.Inside.{steps_may, steps_reach}
 use Rattle.proof_text.proofs.StepWritten.{dropped}
 use Rattle.proof_text.proofs.BodyWritten.{taken_back, Cs_written, Cs_closes, branch_proves, next_case, line_same, facts_found, case_ready, case_written}

@@ -1,58 +1,13 @@
-use Rattle.std.proofs.Common.{map, ap, ◌∙◌}
-use Rattle.logic_core.specs.declared.form.Form.{Form}
-use Rattle.vernacular_tree.specs.Contexts.{counted}
-use Rattle.proof_text.specs.ScriptOf.{printed, variables_of, args_of}
-use Rattle.proof_text.proofs.StepWritten.{form_read, line_given, line_given_fits, step_written, after_written, after_written_inside}
+use Rattle.std.proofs.Common.{ap, ◌∙◌}
+use Rattle.proof_text.specs.ScriptOf.{variables_of, args_of}
+use Rattle.proof_text.proofs.StepWritten.{step_written}
 use Rattle.proof_text.proofs.step.step_of.Goals as goal
-
-pub named_line-requires : goal.named_line-requires
-named_line-requires c =
-    let task = c.args.task.now in
-    let step = c.args.step.now in
-    let context = c.args.context.now in
-    let may = c.requires.may in
-    let form = form_read task c.as_slice.result.now step.form c.index-as_slice-step.result may.0 (c.as_slice.ensures ∙ c.forms.ensures.value) c.index-as_slice-step.is may.1 in
-    let line = line_given task context step c.index-as_slice-step.result c.as_slice-2.result.now c.as_slice-3.result.now c.in_ok-line.line form c.as_slice-2.ensures
-    (c.as_slice-3.ensures ∙ c.in_ok-fresh.ensures) c.in_ok-line.ensures in
-    line_given_fits task context step c.forms.ensures.right may c.in_ok-line.line line
 
 pub returns-clause-text : goal.returns-clause-text
 returns-clause-text c =
     let task = c.args.task.now in
     let step = c.args.step.now in
-    let context = c.args.context.now in
-    let may = c.requires.may in
-    let form = form_read task c.as_slice.result.now step.form c.index-as_slice-step.result may.0 (c.as_slice.ensures ∙ c.forms.ensures.value) c.index-as_slice-step.is may.1 in
-    let line = line_given task context step c.index-as_slice-step.result c.as_slice-2.result.now c.as_slice-3.result.now c.in_ok-line.line form c.as_slice-2.ensures
-    (c.as_slice-3.ensures ∙ c.in_ok-fresh.ensures) c.in_ok-line.ensures in
-    step_written task context step c.forms.ensures.right may c.requires.inside c.args.edition c.in_ok-citation.field-0 c.in_ok-args_of.field-0
-    c.in_ok-element_names.field-0 c.in_ok-named_line.field-0 c.in_ok-line.line c.in_ok-citation.ensures
-    (c.in_ok-args_of.ensures ∙ ap (args_of c.args.edition task (variables_of task step.form)) c.as_slice-4.ensures)
-    (c.in_ok-element_names.ensures ∙ ap (map (printed task)) (c.as_slice-5.ensures ∙ c.in_ok-fresh.ensures
-    ∙ ap (λ (f : Form). counted context.elements f.existentials) form))
-    c.in_ok-named_line.ensures line
-
-pub returns-clause-after : goal.returns-clause-after
-returns-clause-after c =
-    let task = c.args.task.now in
-    let step = c.args.step.now in
-    let context = c.args.context.now in
-    let may = c.requires.may in
-    let form = form_read task c.as_slice.result.now step.form c.index-as_slice-step.result may.0 (c.as_slice.ensures ∙ c.forms.ensures.value) c.index-as_slice-step.is may.1 in
-    let line = line_given task context step c.index-as_slice-step.result c.as_slice-2.result.now c.as_slice-3.result.now c.in_ok-line.line form c.as_slice-2.ensures
-    (c.as_slice-3.ensures ∙ c.in_ok-fresh.ensures) c.in_ok-line.ensures in
-    after_written task context step c.in_ok-after.after c.push.new.self c.index-as_slice-step.result c.in_ok-line.line form c.in_ok-after.ensures
-    c.in_ok-push.ensures.ok line
-
-pub returns-clause-inside : goal.returns-clause-inside
-returns-clause-inside c =
-    let task = c.args.task.now in
-    let step = c.args.step.now in
-    let context = c.args.context.now in
-    let may = c.requires.may in
-    let form = form_read task c.as_slice.result.now step.form c.index-as_slice-step.result may.0 (c.as_slice.ensures ∙ c.forms.ensures.value) c.index-as_slice-step.is may.1 in
-    let line = line_given task context step c.index-as_slice-step.result c.as_slice-2.result.now c.as_slice-3.result.now c.in_ok-line.line form c.as_slice-2.ensures
-    (c.as_slice-3.ensures ∙ c.in_ok-fresh.ensures) c.in_ok-line.ensures in
-    after_written_inside task context step c.forms.ensures.right c.requires.inside may (record { elements = c.in_ok-after.after; lines = c.push.new.self })
-    (after_written task context step c.in_ok-after.after c.push.new.self c.index-as_slice-step.result c.in_ok-line.line form c.in_ok-after.ensures
-    c.in_ok-push.ensures.ok line)
+    step_written task c.args.context.now step c.take_step.ensures.right c.requires.may c.requires.inside c.args.edition c.in_ok-citation.field-0
+    c.in_ok-args_of.field-0 c.in_ok-fresh.field-0.fresh c.in_ok-fresh.field-0.line c.in_ok-citation.ensures
+    (c.in_ok-args_of.ensures ∙ ap (args_of c.args.edition task (variables_of task step.form)) c.as_slice.ensures)
+    c.in_ok-fresh.ensures.fresh c.in_ok-fresh.ensures.line

@@ -15,9 +15,9 @@ loop-step-preserved c =
     let before = c.loop-step.context in
     let after = c.step_of.new.context in record {
       inside = c.in_ok-step_of.ensures.inside;
-      may = others_may e task step (drop (n + 1) steps) (drop n steps) left before after c.in_ok-step_of.ensures.after so_far.may;
-      text = next_written e task step (drop (n + 1) steps) (drop n steps) left before after c.in_ok-step_of.ensures.after c.loop-step.texts c.push.new.self
+      may = others_may task step (drop (n + 1) steps) (drop n steps) left before after c.in_ok-step_of.ensures.after so_far.may;
+      text = next_written task step (drop (n + 1) steps) (drop n steps) left before after c.in_ok-step_of.ensures.after e c.loop-step.texts c.push.new.self
           (steps_of e task steps c.args.context.now) c.in_ok-step_of.field-0 c.in_ok-step_of.ensures.text c.in_ok-push.ensures.ok so_far.text;
-      after = next_after e task step (drop (n + 1) steps) (drop n steps) left before after c.in_ok-step_of.ensures.after (after_steps task steps c.args.context.now)
+      after = next_after task step (drop (n + 1) steps) (drop n steps) left before after c.in_ok-step_of.ensures.after (after_steps task steps c.args.context.now)
           so_far.after;
     }

@@ -1,5 +1,6 @@
 use Rattle.std.specs.Fmt.{decimal}
-use Rattle.proof_text.specs.Canonical.{names_text, body_text}
+use Rattle.proof_text.specs.Canonical.{body_text}
+use Rattle.proof_text.specs.Lines.{names_text}
 use Rattle.proof_text.proofs.Opened.{script_order}
 use Rattle.proof_text.proofs.writer.put_script.Goals as goal
 

@@ -1,0 +1,4 @@
+mod StepsTold
+mod EndsRead
+mod Pushed
+mod BranchesTold

@@ -1,1 +1,0 @@
-fof(a1,axiom,p(c)). fof(g,conjecture,p(c)).
