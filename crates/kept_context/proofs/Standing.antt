@@ -1,5 +1,5 @@
 -- What stands in a context that is kept, and which instances and barren steps there are.
-use Rattle.std.proofs.Common.{◌≡◌, ℕ, ◌<◌, Bool, true, false, List, [], ◌∷◌, sym, ◌∙◌, subst}
+use Rattle.std.proofs.Common.{◌≡◌, ℕ, ◌<◌, Bool, true, false, List, [], ◌∷◌, length, sym, ◌∙◌, subst}
 use Rattle.std.specs.Bool.{Decides}
 use Rattle.std.specs.List.{AllByRecursion}
 use Rattle.text_core.proofs.Laws.{each_map}
@@ -39,6 +39,21 @@ module _ (task : CitedTask) (lent : Context) (kept : Kept) (context : Context) (
     };
     premises = each_map (λ atom told. (stands_seen args atom).0 told) form.premises instance.premises;
   }
+
+  -- where there is an element for each universal variable, the premises tell an instance
+  pub instance_told : (form : Form) (args : List ℕ) (told : Bool) → length args ≡ form.universals → AllByRecursion (λ (e : ℕ). e < kept.elements) args
+      → Decides told (AllByRecursion (λ (atom : Atom). stands_at kept.store.facts args atom ≡ true) form.premises) → Decides told (IsInstance context form args)
+  instance_told form args told long known all = (
+    (λ passes. instance_of form args (record { length_is = long; known = known; premises = all.0 passes })),
+    (λ instance. all.1 (instance_over form args instance).premises),
+  )
+
+  -- elements that are none of the context are no instance
+  pub not_instance : (form : Form) (args : List ℕ) → (AllByRecursion (λ (e : ℕ). e < kept.elements) args → ⊥) → Decides false (IsInstance context form args)
+  not_instance form args unknown = (
+    (λ e. absurd (let passes : false ≡ true = e in cc)),
+    (λ instance. absurd (unknown (instance_over form args instance).known)),
+  )
 
   -- a form with one disjunct and no new element is barren where the atoms of the disjunct stand
   pub barren_told : (form : Form) (args : List ℕ) (atoms : List Atom) (told : Bool) → form.existentials ≡ 0 → form.disjuncts ≡ atoms ∷ []

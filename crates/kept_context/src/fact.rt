@@ -1,4 +1,4 @@
-ghost use Rattle.std.specs.Prelude.{◌≡◌, ◌<◌, ◌≤◌, ◌^◌, true, [], ◌∷◌, length, take};
+ghost use Rattle.std.specs.Prelude.{ℕ, ◌≡◌, ◌<◌, ◌≤◌, ◌^◌, true, [], ◌∷◌, length, take};
 ghost use Rattle.std.specs.Bool.{Decides};
 ghost use Rattle.std.specs.List.{AllByRecursion};
 ghost use Rattle.logic_core.specs.declared.form.Atom.{Atom as AtomValue};
@@ -18,6 +18,18 @@ fn write_elements(buffer: &mut [u32], elements: &[u32], atom: &Atom)
     for (at, slot) in atom.args.as_slice().iter().enumerate() {
         buffer[at] = element_at(elements, *slot);
     }
+}
+
+/// Whether each of some elements is below a number of elements.
+pub(crate) fn are_known(some: &[u32], elements: u32) -> bool
+    ensures { Decides result (AllByRecursion (λ (e : ℕ). e < elements) some.now) }
+{
+    for element in some {
+        if *element >= elements {
+            return false;
+        }
+    }
+    true
 }
 
 /// Whether an atom at elements stands.

@@ -6,6 +6,7 @@ ghost use Rattle.vernacular_tree.specs.declared.context.Context.{Context as Cont
 ghost use Rattle.vernacular_tree.specs.declared.context.Line.TheVariants as line_value;
 ghost use Rattle.vernacular_tree.specs.Contexts.{after_mp, with_facts};
 ghost use Rattle.vernacular_tree.specs.Barren.{Barren};
+ghost use Rattle.vernacular_tree.specs.Rules.{IsInstance};
 ghost use Rattle.coherent_form.specs.Fitting.{FormFits};
 ghost use Rattle.coherent_form.specs.Tasks.{CitedTask};
 ghost use Rattle.coherent_form.specs.declared.limits.TheConstants.{MOST_SYMBOLS};
@@ -13,7 +14,7 @@ ghost use Rattle.kept_context.specs.Kept as kept;
 ghost use Rattle.kept_context.specs.Lent.{IsContextOf, fact_count, arg_count};
 
 use crate::case::{add_case, case_count};
-use crate::fact::are_standing;
+use crate::fact::{are_known, are_standing};
 use crate::line::{note_lines, note_lists, own_line};
 use crate::room::{count_within, extend_within, push_within};
 use coherent_form::Task;
@@ -217,6 +218,24 @@ impl KeptContext {
                 [atoms] => are_standing(&self.store, args, atoms.as_slice()),
                 _ => false,
             }
+    }
+
+    /// Whether a form may be applied to elements: there is one of them for each universal variable,
+    /// and each premise stands at them.
+    pub fn is_instance(&self, form: &Form, args: &[u32]) -> bool
+        requires { (task : CitedTask) × FormFits task.tables form.now
+            × (length task.tables.symbols + 1 ≤ MOST_SYMBOLS) }
+        ensures { (task : CitedTask) (lent context : ContextValue)
+            → kept.Represents task lent self.now context
+            → Decides result (IsInstance context form.now args.now) }
+    {
+        if args.len() != form.universals as usize {
+            return false;
+        }
+        if !are_known(args, self.elements) {
+            return false;
+        }
+        are_standing(&self.store, args, form.premises.as_slice())
     }
 
     /// The number of lines, those of the lent context counted.

@@ -37,7 +37,7 @@ slots_both first args [] = refl
 slots_both first args (slot ∷ slots) = λ i. slot_both first args slot i ∷ slots_both first args slots i
 
 -- so is an atom
-atom_both : (first args : List ℕ) (atom : Atom) → atom_at args (atom_with first atom) ≡ atom_at (first ++ args) atom
+pub atom_both : (first args : List ℕ) (atom : Atom) → atom_at args (atom_with first atom) ≡ atom_at (first ++ args) atom
 atom_both first args atom = λ i. record { positive = atom.positive; symbol = atom.symbol; args = slots_both first args atom.args i }
 
 module _ (context : Context) (first args : List ℕ) where

@@ -13,3 +13,5 @@ pub mod Cases
 pub mod Trying
 pub mod Closing
 pub mod Splitting
+pub mod Replaying
+pub mod Planned

@@ -20,22 +20,18 @@ use Rattle.trail_search.specs.Searches.{IsNoted, HasCursors}
 use Rattle.trail_search.proofs.Bounded.{small_bounded}
 use Rattle.trail_search.proofs.Fewest.{small_size, small_least}
 
-module _ (task : CitedTask) (lent : Context) (kept : Kept) (is : Represents task lent kept lent) (old new : Recorded) where
-  -- what was noted for what is kept is a smallest proof
-  pub told_least : (result : Option ℕ) → IfSome result (λ n. (context : Context) → Represents task lent kept context → IsNoted (proof_task task) context n old new)
-      → IfSome result (λ n. (context : Context) → Represents task lent kept context → HasNone (proof_task task) context (n - 1))
+module _ (task : CitedTask) (lent : Context) (old new : Recorded) where
+  -- what was noted is a smallest proof
+  pub told_least : (result : Option ℕ) → IfSome result (λ n. IsNoted (proof_task task) lent n old new) → IfSome result (λ n. HasNone (proof_task task) lent (n - 1))
       → IfSome result (LeastFrom (proof_task task) lent)
-  told_least (Some n) noted least =
-      let here = noted lent is in small_least (proof_task task) lent n here.body here.proves here.small (least lent is)
+  told_least (Some n) noted least = small_least (proof_task task) lent n noted.body noted.proves noted.small least
   told_least None noted least = tt
 
   -- of this size
-  pub told_noted : (result : Option ℕ) → IfSome result (λ n. (context : Context) → Represents task lent kept context → IsNoted (proof_task task) context n old new)
-      → IfSome result (λ n. (context : Context) → Represents task lent kept context → HasNone (proof_task task) context (n - 1))
+  pub told_noted : (result : Option ℕ) → IfSome result (λ n. IsNoted (proof_task task) lent n old new) → IfSome result (λ n. HasNone (proof_task task) lent (n - 1))
       → IfSome result (λ n. (body : Body) × IsProof (proof_task task) lent body × (new.nodes ≡ old.nodes ++ reverse (preorder body)) × (size body ≡ n))
   told_noted (Some n) noted least =
-      let here = noted lent is in
-      (here.body, here.proves, here.nodes_are, small_size (proof_task task) lent n here.body here.proves here.small (least lent is))
+      (noted.body, noted.proves, noted.nodes_are, small_size (proof_task task) lent n noted.body noted.proves noted.small least)
   told_noted None noted least = tt
 
 module _ (task : Task) (context : Context) (old new : List Node) (none : old ≡ []) where

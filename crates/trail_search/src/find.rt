@@ -11,11 +11,14 @@ ghost use Rattle.trail_search.specs.Answers.{AreAnswers};
 ghost use Rattle.trail_search.specs.Least.{HasNone, LeastFrom};
 ghost use Rattle.trail_search.specs.Searches.{HasCursors, CanNote};
 
+use crate::done::Done;
 use crate::found::Found;
+use crate::look::look_least;
+use crate::outline::Outline;
 use crate::scene::Scene;
-use crate::search::search_least;
 use instance_cursor::Cursor;
 use kept_context::KeptContext;
+use proof_plans::Planner;
 
 /// The fewest rule applications of a proof from the context that is lent, where they are at most
 /// `within`; the proof is noted. Nothing is kept before and after.
@@ -24,6 +27,9 @@ pub(crate) fn find_least(
     kept: &mut KeptContext,
     cursors: &mut [Cursor],
     found: &mut Found,
+    planner: &mut Planner,
+    outline: &mut Outline,
+    done: &mut [Done],
     within: u32,
 ) -> Option<u32>
     requires task { IsRight scene.now.task.now }
@@ -49,7 +55,7 @@ pub(crate) fn find_least(
 {
     let point = kept.point();
     kept.enter(scene.task, scene.lent);
-    let least = search_least(scene, kept, cursors, found, within);
+    let least = look_least(scene, kept, cursors, found, planner, outline, done, within);
     kept.back(point);
     least
 }

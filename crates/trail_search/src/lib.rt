@@ -3,10 +3,15 @@
 
 mod answers;
 mod close;
+mod done;
 mod entry;
 mod find;
 mod found;
 mod law;
+mod look;
+mod outline;
+mod plan;
+mod replay;
 mod scene;
 mod search;
 mod searcher;

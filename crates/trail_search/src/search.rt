@@ -154,8 +154,13 @@ fn take_step(
     done
 }
 
-// The number of cases of a line, where it is below `budget`.
-fn few_cases(scene: &Scene<'_>, kept: &KeptContext, line: usize, budget: u32) -> Option<u32>
+/// The number of cases of a line, where it is below `budget`.
+pub(crate) fn few_cases(
+    scene: &Scene<'_>,
+    kept: &KeptContext,
+    line: usize,
+    budget: u32,
+) -> Option<u32>
     ensures some { IfSome result (λ count. (count < budget) × ((context : ContextValue)
         → Represents scene.now.task.now scene.now.lent.now kept.now context
         → (lists : Lst (Lst AtomValue))
@@ -263,7 +268,7 @@ fn close_cases(
 /// The fewest rule applications of a proof from what is kept, where they are at most `within`; the
 /// proof is noted.
 #[cycle(search)]
-pub(crate) fn search_least(
+fn search_least(
     scene: &Scene<'_>,
     kept: &mut KeptContext,
     cursors: &mut [Cursor],

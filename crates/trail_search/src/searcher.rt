@@ -9,13 +9,16 @@ ghost use Rattle.trail_search.specs.Least.{HasNone, LeastFrom};
 ghost use Rattle.trail_search.specs.Searches.{HasCursors};
 
 use crate::answers::answer_forms;
+use crate::done::{Done, none_done};
 use crate::find::find_least;
 use crate::found::Found;
+use crate::outline::Outline;
 use crate::scene::Scene;
 use coherent_form::Task;
 use instance_cursor::Cursor;
 use kept_context::KeptContext;
 use logic_core::Form;
+use proof_plans::Planner;
 use std::alloc::Global;
 use std::marker::Model;
 use text_core::{List, MOST_FORM_ATOMS, MOST_FORM_VARIABLES, Memory};
@@ -33,6 +36,9 @@ pub struct Searcher<'a> {
     kept: KeptContext,
     cursors: Vec<Cursor>,
     noted: Found,
+    planner: Planner,
+    outline: Outline,
+    done: Vec<Done>,
     found: Option<u32>,
 }
 
@@ -96,6 +102,9 @@ impl<'a> Searcher<'a> {
             kept: KeptContext::new(alloc, task, most, facts, args)?,
             cursors: wide_cursors(alloc, most)?,
             noted: Found::new(alloc, most)?,
+            planner: Planner::new(alloc, most)?,
+            outline: Outline::new(alloc, most)?,
+            done: none_done(alloc, most)?,
             found: None,
         })
     }
@@ -135,6 +144,9 @@ impl<'a> Searcher<'a> {
             &mut self.kept,
             self.cursors.as_mut_slice(),
             &mut self.noted,
+            &mut self.planner,
+            &mut self.outline,
+            self.done.as_mut_slice(),
             within,
         );
         self.found

@@ -1,0 +1,9 @@
+pub mod Structures
+pub mod Connectives
+pub mod Countermodels
+pub mod Assignments
+pub mod Decided
+pub mod Weights
+pub mod Tabled
+pub mod Coded
+pub mod CodedLaw

@@ -1,0 +1,12 @@
+pub mod Laws
+pub mod WordNumbers
+pub mod Marked
+pub mod Placed
+pub mod Watched
+pub mod Faults
+pub mod Read
+pub mod ModelOrRefusal
+pub mod Numbers
+pub mod Standing
+pub mod NumberPieces
+pub mod ModelPieces

@@ -1,0 +1,15 @@
+pub mod Structures
+pub mod Words
+pub mod Numbers
+pub mod Marks
+pub mod Grammar
+pub mod GrammarLaw
+pub mod Seen
+pub mod Watching
+pub mod Values
+pub mod Effects
+pub mod EffectsLaw
+pub mod Texts
+pub mod Told
+pub mod Canonical
+pub mod Named

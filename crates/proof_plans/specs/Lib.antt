@@ -1,0 +1,17 @@
+pub mod Runs
+pub mod Plans
+pub mod Embeds
+pub mod Moves
+pub mod Drafts
+pub mod Popped
+pub mod Splits
+pub mod Joining
+pub mod Words
+pub mod Places
+pub mod Scenes
+pub mod Choices
+pub mod Ways
+pub mod Hopes
+pub mod Creators
+pub mod Taking
+pub mod Verdicts

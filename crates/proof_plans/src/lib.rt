@@ -1,0 +1,29 @@
+//! Plans of proofs: what every proof of some size has to do, as constraints on applications that are
+//! not known yet.
+#![tactic(auto)]
+
+mod apply;
+mod choice;
+mod collect;
+mod draft;
+mod finish;
+mod item;
+mod joining;
+mod open;
+mod pick;
+mod place;
+mod planner;
+mod scene;
+mod search;
+mod settle;
+mod word;
+
+pub use choice::Choice;
+pub use draft::{Draft, GoalOf, ListOf, Mark, Node, Pair, PlanGoal, PlanStep, PlanTie};
+pub use finish::Span;
+pub use joining::Joined;
+pub use open::Open;
+pub use place::{Deeper, Next, Place};
+pub use planner::{Element, Planner, Verdict};
+pub use scene::{Read, Scene};
+pub use settle::Settled;
