@@ -21,15 +21,22 @@ use Rattle.proof_text.specs.StandsFor.{AreCitedOnce}
 use Rattle.proof_checker.specs.declared.refusal.StepRefusal.{StepRefusal}
 use Rattle.proof_checker.specs.Faults.{IsFault}
 use Rattle.proof_checker.proofs.Laws.{accepted_none}
+use Rattle.model_text.specs.Structures.{Finite}
+use Rattle.model_text.specs.Texts.{IsModelOf, ModelFault}
+use Rattle.model_text.proofs.Laws.{models_same, model_not_refused}
+use Rattle.finite_model.specs.Countermodels.{IsCountermodel, IsConfirmFault}
+use Rattle.finite_model.specs.declared.refusal.ConfirmRefusal.{ConfirmRefusal}
+use Rattle.finite_model.proofs.Laws.{countermodel_not_refused}
 use Rattle.larus_cli.specs.declared.command.Format.{Format}
-use Rattle.larus_cli.specs.Words.{Aim, to_print, to_prove, to_judge, Asks}
+use Rattle.larus_cli.specs.Words.{Aim, to_print, to_prove, to_judge, to_confirm, second_in, Asks}
 use Rattle.larus_cli.specs.OwnFiles.{looked_at}
-use Rattle.larus_cli.specs.Read.{ReadsProblem, ReadsTask, ReadsBytes, Spells, SpellsNone, ReadsScript, ReadsProof}
+use Rattle.larus_cli.specs.Read.{ReadsProblem, ReadsTask, ReadsBytes, Spells, SpellsNone, ReadsScript, ReadsProof, ReadsModel}
 use Rattle.larus_cli.specs.Smallest.{HasNoProof}
-use Rattle.larus_cli.specs.Answers.{Answer, done, step_refused, none_up_to, problem_refused, formula_refused, too_long, proof_refused, usage, fault}
+use Rattle.larus_cli.specs.Answers.{Answer, done, step_refused, none_up_to, model_fails, problem_refused, formula_refused}
+use Rattle.larus_cli.specs.Answers.{too_long, proof_refused, model_refused, usage, fault}
 use Rattle.larus_cli.specs.Outcome.{Sinks, BreaksAt, Outcome, answered, broken, out_of_memory}
 use Rattle.larus_cli.specs.Complete.{IsReadable, CanBeDone, NoFault}
-use Rattle.larus_cli.proofs.Saying.{one_problem, one_aim}
+use Rattle.larus_cli.proofs.Saying.{one_problem, one_aim, model_read}
 use Rattle.larus_cli.proofs.Outcomes.{asks_some, fetch_rose}
 use Rattle.larus_cli.proofs.Spelling.{spelled_same, spelled_never}
 
@@ -38,18 +45,31 @@ readable_of : (files : Known) (problem : Text) (aim : Aim) → CanBeDone files p
 readable_of files problem to_print can = can
 readable_of files problem (to_prove most) (task, reads, body) = (task, reads)
 readable_of files problem (to_judge wanted format second) (task, script, body, reads) = (task, script, reads.reads)
+readable_of files problem (to_confirm second) (formulas, task, m, reads, counter) = (formulas, task, m, reads)
 
 -- the formulas of a problem that can be read
 flat_of : (files : Known) (problem : Text) (aim : Aim) → IsReadable files problem aim → (formulas : List Fof) × ReadsProblem files problem formulas
 flat_of files problem to_print can = can
 flat_of files problem (to_prove most) (task, reads) = (reads.formulas, reads.reads)
 flat_of files problem (to_judge wanted format second) (task, script, reads) = (reads.reads.reads.formulas, reads.reads.reads.reads)
+flat_of files problem (to_confirm second) (formulas, task, m, reads) = (formulas, reads.reads)
 
 -- its task, where that is wanted
 task_of : (files : Known) (problem : Text) (aim : Aim) → aim ≢ to_print → IsReadable files problem aim → (task : CitedTask) × ReadsTask files problem task
 task_of files problem to_print some can = absurd (some refl)
 task_of files problem (to_prove most) some can = can
 task_of files problem (to_judge wanted format second) some (task, script, reads) = (task, reads.reads.reads)
+task_of files problem (to_confirm second) some (formulas, task, m, reads) = (task, (model_read reads).reads)
+
+-- the bytes of the second file, where one is asked for
+second_read : (files : Known) (problem second : Text) (aim : Aim) → second_in aim ≡ Some second → IsReadable files problem aim →
+    (task : CitedTask) × (bytes : Text) × ReadsBytes files problem second task bytes
+second_read files problem second to_print is can = absurd cc
+second_read files problem second (to_prove most) is can = absurd cc
+second_read files problem second (to_judge wanted format name) is (task, script, reads) =
+    subst (λ n. (task : CitedTask) × (bytes : Text) × ReadsBytes files problem n task bytes) (value_same is) (task, reads.bytes, reads.reads)
+second_read files problem second (to_confirm name) is (formulas, task, m, reads) =
+    subst (λ n. (task : CitedTask) × (bytes : Text) × ReadsBytes files problem n task bytes) (value_same is) (task, reads.bytes, model_read reads)
 
 module _ (files later : Known) (held : Held) (holding : files.held ≡ Some held) where
   -- what is said where the files tell what they hold
@@ -104,9 +124,16 @@ module _ (files later : Known) (held : Held) (holding : files.held ≡ Some held
       let task = task_of files problem aim (λ printed. names.2 (one_aim words names.1 asks ∙ printed)) can in
       let one = formulas_same problem formulas task.1.formulas (subst (λ p. ReadsProblem files p formulas) same reads) task.1.reads in
       absurd (task_not_refused task.1.formulas task.0 refusal task.1.has (subst (λ fs. IsTaskFault fs refusal) one is))
-  complete_row {words = words} (too_long other second format task names reads long) problem aim asks can some =
-      let judged = subst (IsReadable files problem) (one_aim words asks names.1) can in
-      absurd (not_long problem second judged.0 judged.2.bytes judged.2.reads long)
+  complete_row (model_fails other second formulas task m refusal also reads is) problem aim asks can some = inr refl
+  complete_row {words = words} (too_long other second task names reads long) problem aim asks can some =
+      let can' = subst (IsReadable files problem) (one_aim words asks names.1) can in
+      let found = second_read files problem second names.0 names.2 can' in
+      absurd (not_long problem second found.0 found.1 found.2 long)
+  complete_row {words = words} (model_refused other second task bytes refusal also reads is) problem aim asks can some =
+      let sought = subst (IsReadable files problem) (one_aim words asks also) can in
+      let read = subst (λ p. ReadsBytes files p second task bytes) (one_problem words also asks) reads in
+      let one : bytes ≡ sought.3.bytes = bytes_same problem second task sought.1 bytes sought.3.bytes read (model_read sought.3) in
+      absurd (model_not_refused sought.3.bytes sought.2 refusal sought.3.spells (subst (λ b. ModelFault b refusal) one is))
   complete_row {words = words} (proof_refused other second format task bytes why names reads is) problem aim asks can some =
       let judged = subst (IsReadable files problem) (one_aim words asks names.1) can in
       let read = subst (λ p. ReadsBytes files p second task bytes) (one_problem words names.1 asks) reads in
@@ -127,6 +154,20 @@ module _ (files later : Known) (held : Held) (holding : files.held ≡ Some held
       let fault : IsFault task script refusal = subst (λ (k : CitedTask × Written). IsFault k.0 k.1 refusal) (λ i. (tasks i, scripts i)) because in
       accepted_none task once script body refusal is.accepted fault
 
+  -- a structure that is a countermodel has no fault
+  confirmed_never : (problem second : Text) (formulas others : List Fof) (task other : CitedTask) (m n : Finite) (refusal : ConfirmRefusal) →
+      ReadsModel files problem second formulas task m → IsCountermodel task.tables.constants formulas m →
+      ReadsModel files problem second others other n → IsConfirmFault other.tables.constants others n refusal → ⊥
+  confirmed_never problem second formulas others task other m n refusal is counter also because =
+      let first = model_read is in
+      let second' = model_read also in
+      let flats : others ≡ formulas = formulas_same problem others formulas also.reads is.reads in
+      let tasks : other ≡ task = task_same problem other task second'.reads first.reads in
+      let bytes : also.bytes ≡ is.bytes = bytes_same problem second other task also.bytes is.bytes second' first in
+      let models : n ≡ m = models_same is.bytes n m (subst (λ b. IsModelOf b n) bytes also.spells) is.spells in
+      countermodel_not_refused task.tables.constants formulas m refusal counter
+      (subst (λ (k : CitedTask × List Fof × Finite). IsConfirmFault k.0.tables.constants k.1 k.2 refusal) (λ i. (tasks i, flats i, models i)) because)
+
   -- what can be done does not end with 1
   one_never : {words : List Text} {output : Bool} {text : Text} {status : ℕ} → Answer words files later output text status →
       (problem : Text) (aim : Aim) → Asks words problem aim → CanBeDone files problem aim → status ≡ 1 → ⊥
@@ -139,6 +180,10 @@ module _ (files later : Known) (held : Held) (holding : files.held ≡ Some held
       let read = subst (λ p. ReadsTask files p task) (one_problem words also asks) reads in
       let one = task_same problem task sought.0 read sought.1 in
       subst (λ t. HasNoProof t most) one none sought.2.0 sought.2.1 sought.2.2
+  one_never {words = words} (model_fails other second formulas task m refusal also reads is) problem aim asks can e =
+      let sought = subst (CanBeDone files problem) (one_aim words asks also) can in
+      let read = subst (λ p. ReadsModel files p second formulas task m) (one_problem words also asks) reads in
+      confirmed_never problem second sought.0 formulas sought.1 task sought.2 m refusal sought.3 sought.4 read is
   one_never row problem aim asks can e = omega arith
 
 -- a sink that failed counts it

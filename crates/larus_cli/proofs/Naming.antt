@@ -6,7 +6,7 @@ use Rattle.std.proofs.Common.{◌≡◌, ◌≤◌, ◌<◌, ℕ, zero, suc, if�
 use Rattle.text_core.specs.Names.{Text}
 use Rattle.problem_suite.specs.declared.made.TheConstants.{MOST_IMPLICATIONS}
 use Rattle.larus_cli.specs.declared.command.Command.{Command}
-use Rattle.larus_cli.specs.declared.command.Command.TheVariants.{Check, Prove, ExportIsar, ExportEnglish, ConvertProblem, ConvertVernacular, ConvertIsar, ConvertVersion2, Demo}
+use Rattle.larus_cli.specs.declared.command.Command.TheVariants.{Check, Prove, ExportIsar, ExportEnglish, ConvertProblem, ConvertVernacular, ConvertIsar, ConvertVersion2, Demo, Confirm}
 use Rattle.larus_cli.specs.declared.command.Format.{Format}
 use Rattle.larus_cli.specs.declared.command.Format.TheVariants as formats
 use Rattle.larus_cli.specs.declared.command.Wanted.{Wanted}
@@ -21,17 +21,18 @@ search_told (Some other) most is = cc
 search_told None most is = absurd cc
 
 -- three words, by their tests
-abbrev Three : Text → Bool → Bool → Bool → Bool → Option Command
-Three third a b c d = if a then Some Check else (if b then search_within (number_of MOST_STEPS third) else
-    (if c then (if d then Some ConvertProblem else None) else None))
+abbrev Three : Text → Bool → Bool → Bool → Bool → Bool → Option Command
+Three third a b c d e = if a then Some Check else (if b then search_within (number_of MOST_STEPS third) else
+    (if c then (if d then Some ConvertProblem else None) else (if e then Some Confirm else None)))
 
 -- three words that are a search tell a bound
-three_told : (third : Text) (most : ℕ) (a b c d : Bool) → Three third a b c d ≡ Some (Prove most) → most ≤ MOST_STEPS
-three_told third most true b c d told = absurd cc
-three_told third most false true c d told = (number_told MOST_STEPS third most (search_told (number_of MOST_STEPS third) most told)).1
-three_told third most false false true true told = absurd cc
-three_told third most false false true false told = absurd cc
-three_told third most false false false d told = absurd cc
+three_told : (third : Text) (most : ℕ) (a b c d e : Bool) → Three third a b c d e ≡ Some (Prove most) → most ≤ MOST_STEPS
+three_told third most true b c d e told = absurd cc
+three_told third most false true c d e told = (number_told MOST_STEPS third most (search_told (number_of MOST_STEPS third) most told)).1
+three_told third most false false true true e told = absurd cc
+three_told third most false false true false e told = absurd cc
+three_told third most false false false d true told = absurd cc
+three_told third most false false false d false told = absurd cc
 
 -- what words ask for that are a search
 asks_search : (words : List Text) (first second third : Text) (most : ℕ) → words ≡ first ∷ second ∷ third ∷ [] →
@@ -46,7 +47,7 @@ pub prove_told : (words : List Text) (most : ℕ) (problem : Text) → command_o
 prove_told (first ∷ second ∷ third ∷ []) most problem is some few at = (
   subst (λ p. Asks (first ∷ second ∷ third ∷ []) p (to_prove most)) (sym at) (asks_search _ first second third most refl is),
   three_told third most (bytes_eq first (codes "check")) (bytes_eq first (codes "prove")) (bytes_eq first (codes "convert"))
-      (bytes_eq second (codes "problem")) is,
+      (bytes_eq second (codes "problem")) (bytes_eq first (codes "confirm")) is,
 )
 prove_told [] most problem is some few at = absurd (omega arith)
 prove_told (first ∷ []) most problem is some few at = absurd (omega arith)
@@ -65,6 +66,7 @@ asks_wanted (Some ConvertVersion2) wanted words is = ap (λ w. judged_names w fo
 asks_wanted (Some (Prove most)) wanted words is = absurd cc
 asks_wanted (Some ConvertProblem) wanted words is = absurd cc
 asks_wanted (Some (Demo k)) wanted words is = absurd cc
+asks_wanted (Some Confirm) wanted words is = absurd cc
 asks_wanted None wanted words is = absurd cc
 
 -- three such words
@@ -130,13 +132,15 @@ two_told true second k is =
 two_told false second k is = absurd cc
 
 -- three words are no demonstration
-three_never : (third : Text) (k : ℕ) (bound : Option ℕ) (a b c d : Bool) → number_of MOST_STEPS third ≡ bound → Three third a b c d ≡ Some (Demo k) → ⊥
-three_never third k bound true b c d same told = cc
-three_never third k (Some most) false true c d same told = let never = rw same at told in cc
-three_never third k None false true c d same told = let never = rw same at told in cc
-three_never third k bound false false true true same told = cc
-three_never third k bound false false true false same told = cc
-three_never third k bound false false false d same told = cc
+three_never : (third : Text) (k : ℕ) (bound : Option ℕ) (a b c d e : Bool) → number_of MOST_STEPS third ≡ bound →
+    Three third a b c d e ≡ Some (Demo k) → ⊥
+three_never third k bound true b c d e same told = cc
+three_never third k (Some most) false true c d e same told = let never = rw same at told in cc
+three_never third k None false true c d e same told = let never = rw same at told in cc
+three_never third k bound false false true true e same told = cc
+three_never third k bound false false true false e same told = cc
+three_never third k bound false false false d true same told = cc
+three_never third k bound false false false d false same told = cc
 
 -- no conversion of a proof is a demonstration
 conversion_never : (k : ℕ) (a b c : Bool) → (if a then Some ConvertVernacular else
@@ -168,7 +172,7 @@ demo_told (first ∷ []) k is = absurd cc
 demo_told (first ∷ second ∷ []) k is = two_told (bytes_eq first (codes "demo")) second k is
 demo_told (first ∷ second ∷ third ∷ []) k is =
     absurd (three_never third k (number_of MOST_STEPS third) (bytes_eq first (codes "check")) (bytes_eq first (codes "prove"))
-    (bytes_eq first (codes "convert")) (bytes_eq second (codes "problem")) refl is)
+    (bytes_eq first (codes "convert")) (bytes_eq second (codes "problem")) (bytes_eq first (codes "confirm")) refl is)
 demo_told (first ∷ second ∷ third ∷ fourth ∷ []) k is =
     absurd (four_never k second (bytes_eq first (codes "export")) (bytes_eq first (codes "convert")) is)
 demo_told (first ∷ second ∷ third ∷ fourth ∷ fifth ∷ rest) k is = absurd cc

@@ -30,20 +30,29 @@ use Rattle.proof_checker.specs.Accepted.{IsAcceptedAs}
 use Rattle.proof_text.specs.StandsFor.{AreCitedOnce}
 use Rattle.proof_checker.specs.Faults.{IsFault}
 use Rattle.proof_checker.proofs.Laws.{accepted_one, fault_one, accepted_none}
+use Rattle.model_text.specs.declared.refusal.ModelRefusal.{ModelRefusal}
+use Rattle.model_text.specs.Structures.{Finite}
+use Rattle.model_text.specs.Texts.{IsModelOf, ModelFault}
+use Rattle.model_text.proofs.Laws.{models_same, refusals_same, model_not_refused}
+use Rattle.finite_model.specs.declared.refusal.ConfirmRefusal.{ConfirmRefusal}
+use Rattle.finite_model.specs.Countermodels.{IsCountermodel, IsConfirmFault}
+use Rattle.finite_model.proofs.Laws.{one_confirm_refusal, countermodel_not_refused}
 use Rattle.larus_cli.specs.declared.command.Command.{Command}
-use Rattle.larus_cli.specs.declared.command.Command.TheVariants.{Check, Prove, ExportIsar, ExportEnglish, ConvertProblem, ConvertVernacular, ConvertIsar, ConvertVersion2, Demo}
+use Rattle.larus_cli.specs.declared.command.Command.TheVariants.{Check, Prove, ExportIsar, ExportEnglish, ConvertProblem, ConvertVernacular, ConvertIsar, ConvertVersion2, Demo, Confirm}
 use Rattle.larus_cli.specs.declared.command.Format.{Format}
 use Rattle.larus_cli.specs.declared.command.Wanted.{Wanted}
 use Rattle.larus_cli.specs.declared.report.ProofWhy.{ProofWhy}
-use Rattle.larus_cli.specs.Words.{Aim, to_print, to_prove, to_judge, command_of, Asks, NamesBoth}
+use Rattle.larus_cli.specs.Words.{Aim, to_print, to_prove, to_judge, to_confirm, second_in, command_of, Asks, NamesBoth}
 use Rattle.larus_cli.specs.OwnFiles.{looked_in, looked_at}
-use Rattle.larus_cli.specs.Texts.{usage_text, too_long_text, flat_text, formula_text, proof_text, step_text, none_text}
-use Rattle.larus_cli.specs.Read.{ReadsTask, ReadsBytes, Spells, SpellsNone, ReadsScript}
+use Rattle.larus_cli.specs.Texts.{usage_text, too_long_text, flat_text, formula_text, proof_text, model_text, step_text, none_text, countermodel_text, confirm_text}
+use Rattle.larus_cli.specs.Read.{ReadsTask, ReadsBytes, Spells, SpellsNone, ReadsScript, ReadsModel}
 use Rattle.larus_cli.specs.Smallest.{IsSmallest, HasNoProof}
-use Rattle.larus_cli.specs.Done.{Done, told, judged, proved, converted}
-use Rattle.larus_cli.specs.Answers.{Answer, done, step_refused, none_up_to, problem_refused, formula_refused, too_long, proof_refused, usage, fault}
+use Rattle.larus_cli.specs.Done.{Done, told, judged, proved, converted, confirmed}
+use Rattle.larus_cli.specs.Answers.{Answer, done, step_refused, none_up_to, model_fails, problem_refused, formula_refused}
+use Rattle.larus_cli.specs.Answers.{too_long, proof_refused, model_refused, usage, fault}
 use Rattle.larus_cli.specs.Outcome.{Sinks, PutsTo, Outcome, answered, broken, out_of_memory, IsSettled, Alike, one_text, two_smallest, EndAlike}
 use Rattle.larus_cli.proofs.Outcomes.{asks_some}
+use Rattle.larus_cli.proofs.Saying.{model_read}
 use Rattle.larus_cli.proofs.Spelling.{spelled_same, reasons_same, spelled_never}
 
 -- what is said: one text, or that of some smallest proof of a task
@@ -114,11 +123,39 @@ module _ (wanted : Wanted) where
   one_by_bytes format name task bytes a b once (inr (script, is, e)) (inr (other, also, f)) =
       one_by_script task script a b once e (subst (OnScript task b) (spelled_same format task bytes other script also is) f)
 
+module _ (constants : List Text) (flat : List Fof) where
+  -- by the structure that the bytes of the second file spell
+  abbrev OnStructure : End → Finite → Type 0
+  OnStructure end m = (IsCountermodel constants flat m × (end ≡ on_output (countermodel_text m.size) 0)) ⊎
+      ((refusal : ConfirmRefusal) × IsConfirmFault constants flat m refusal × (end ≡ on_output (confirm_text refusal) 1))
+
+  -- two ends by the structure are one
+  one_by_structure : (m : Finite) (a b : End) → OnStructure a m → OnStructure b m → a ≡ b
+  one_by_structure m a b (inl (is, e)) (inl (also, f)) = e ∙ sym f
+  one_by_structure m a b (inl (is, e)) (inr (refusal, because, f)) = absurd (countermodel_not_refused constants flat m refusal is because)
+  one_by_structure m a b (inr (refusal, because, e)) (inl (is, f)) = absurd (countermodel_not_refused constants flat m refusal is because)
+  one_by_structure m a b (inr (refusal, is, e)) (inr (other, also, f)) =
+      e ∙ ap (λ r. on_output (confirm_text r) 1) (one_confirm_refusal constants flat m refusal other is also) ∙ sym f
+
+  -- by the bytes of the second file
+  abbrev OnModel : Text → End → Text → Type 0
+  OnModel name end bytes = ((refusal : ModelRefusal) × ModelFault bytes refusal × (end ≡ on_errors (name ++ model_text refusal) 3)) ⊎
+      ((m : Finite) × IsModelOf bytes m × OnStructure end m)
+
+  -- two ends by the bytes of the second file are one
+  one_by_model : (name bytes : Text) (a b : End) → OnModel name a bytes → OnModel name b bytes → a ≡ b
+  one_by_model name bytes a b (inl (refusal, is, e)) (inl (other, also, f)) =
+      e ∙ ap (λ r. on_errors (name ++ model_text r) 3) (refusals_same bytes refusal other is also) ∙ sym f
+  one_by_model name bytes a b (inl (refusal, because, e)) (inr (m, is, f)) = absurd (model_not_refused bytes m refusal is because)
+  one_by_model name bytes a b (inr (m, is, e)) (inl (refusal, because, f)) = absurd (model_not_refused bytes m refusal is because)
+  one_by_model name bytes a b (inr (m, is, e)) (inr (other, also, f)) =
+      one_by_structure m a b e (subst (OnStructure b) (models_same bytes other m also is) f)
+
 module _ (held : Held) where
   -- by the second file
-  abbrev OnSecond : Wanted → Format → Text → End → CitedTask → Type 0
-  OnSecond wanted format name end task = (IsLong held name MOST_FILE_BYTES × (end ≡ on_errors (name ++ too_long_text) 3)) ⊎
-      ((bytes : Text) × (finite.get held name ≡ Some bytes) × (length bytes ≤ MOST_FILE_BYTES) × OnBytes wanted format name task end bytes)
+  abbrev OnSecond : (Text → Type 0) → Text → End → Type 0
+  OnSecond P name end = (IsLong held name MOST_FILE_BYTES × (end ≡ on_errors (name ++ too_long_text) 3)) ⊎
+      ((bytes : Text) × (finite.get held name ≡ Some bytes) × (length bytes ≤ MOST_FILE_BYTES) × P bytes)
 
   -- no file is both too long and within the bound
   not_long : (name bytes : Text) → IsLong held name MOST_FILE_BYTES → finite.get held name ≡ Some bytes → length bytes ≤ MOST_FILE_BYTES → ⊥
@@ -126,13 +163,13 @@ module _ (held : Held) where
       let more = subst (λ o. IsSomeAnd o (λ (bs : Text). MOST_FILE_BYTES < length bs)) get long in absurd (omega arith)
 
   -- two ends by the second file are one
-  one_by_second : (wanted : Wanted) (format : Format) (name : Text) (task : CitedTask) (a b : End) → AreCitedOnce task →
-      OnSecond wanted format name a task → OnSecond wanted format name b task → a ≡ b
-  one_by_second wanted format name task a b once (inl (long, e)) (inl (also, f)) = e ∙ sym f
-  one_by_second wanted format name task a b once (inl (long, e)) (inr (bytes, get, within, f)) = absurd (not_long name bytes long get within)
-  one_by_second wanted format name task a b once (inr (bytes, get, within, e)) (inl (long, f)) = absurd (not_long name bytes long get within)
-  one_by_second wanted format name task a b once (inr (bytes, get, within, e)) (inr (others, also, within', f)) =
-      one_by_bytes wanted format name task bytes a b once e (subst (OnBytes wanted format name task b) (value_same (sym also ∙ get)) f)
+  one_by_second : (P Q : Text → Type 0) (name : Text) (a b : End) → ((bytes : Text) → P bytes → Q bytes → a ≡ b) →
+      OnSecond P name a → OnSecond Q name b → a ≡ b
+  one_by_second P Q name a b one (inl (long, e)) (inl (also, f)) = e ∙ sym f
+  one_by_second P Q name a b one (inl (long, e)) (inr (bytes, get, within, f)) = absurd (not_long name bytes long get within)
+  one_by_second P Q name a b one (inr (bytes, get, within, e)) (inl (long, f)) = absurd (not_long name bytes long get within)
+  one_by_second P Q name a b one (inr (bytes, get, within, e)) (inr (others, also, within', f)) =
+      one bytes e (subst Q (value_same (sym also ∙ get)) f)
 
   -- by the search for a proof within a bound
   abbrev OnSearch : ℕ → End → CitedTask → Type 0
@@ -165,7 +202,8 @@ module _ (held : Held) where
   abbrev OnFormulas : Aim → End → List Fof → Type 0
   OnFormulas to_print end flat = end ≡ on_output (problem_text flat) 0
   OnFormulas (to_prove most) end flat = OnTask (OnSearch most end) end flat
-  OnFormulas (to_judge wanted format name) end flat = OnTask (OnSecond wanted format name end) end flat
+  OnFormulas (to_judge wanted format name) end flat = OnTask (λ task. OnSecond (OnBytes wanted format name task end) name end) end flat
+  OnFormulas (to_confirm name) end flat = OnTask (λ task. OnSecond (OnModel task.tables.constants flat name end) name end) end flat
 
   -- two ends by the formulas of the problem are one
   one_by_formulas : (aim : Aim) (flat : List Fof) (a b : End) → OnFormulas aim a flat → OnFormulas aim b flat → a ≡ b
@@ -173,8 +211,14 @@ module _ (held : Held) where
   one_by_formulas (to_prove most) flat a b e f =
       one_by_task (OnSearch most a) (OnSearch most b) flat a b (λ task once. one_by_search most task a b) e f
   one_by_formulas (to_judge wanted format name) flat a b e f =
-      one_by_task (OnSecond wanted format name a) (OnSecond wanted format name b) flat a b
-      (λ task once. one_by_second wanted format name task a b once) e f
+      one_by_task (λ task. OnSecond (OnBytes wanted format name task a) name a) (λ task. OnSecond (OnBytes wanted format name task b) name b)
+      flat a b (λ task once. one_by_second (OnBytes wanted format name task a) (OnBytes wanted format name task b) name a b
+      (λ bytes. one_by_bytes wanted format name task bytes a b once)) e f
+  one_by_formulas (to_confirm name) flat a b e f =
+      one_by_task (λ task. OnSecond (OnModel task.tables.constants flat name a) name a)
+      (λ task. OnSecond (OnModel task.tables.constants flat name b) name b) flat a b
+      (λ task once. one_by_second (OnModel task.tables.constants flat name a) (OnModel task.tables.constants flat name b) name a b
+      (λ bytes. one_by_model task.tables.constants flat name bytes a b)) e f
 
   -- by the files of the problem
   abbrev OnProblem : End → Text → Aim → Type 0
@@ -214,7 +258,7 @@ module _ (held : Held) where
 
     -- an end by the second file of words that name it, where the problem has a task
     by_task : (problem : Text) (format : Format) (name : Text) (task : CitedTask) (end : End) (names : NamesBoth words problem format name) →
-        ReadsTask files problem task → OnSecond held names.0 format name end task → OnWords words end
+        ReadsTask files problem task → OnSecond held (OnBytes names.0 format name task end) name end → OnWords words end
     by_task problem format name task end names read is = inr (
       problem,
       to_judge names.0 format name,
@@ -235,6 +279,33 @@ module _ (held : Held) where
     by_script problem format proof task script end names read is =
         by_bytes problem format proof read.bytes task end names read.reads (inr (script, read.spells, is))
 
+    -- an end by the second file that is to have a structure
+    by_model : (problem name : Text) (formulas : List Fof) (task : CitedTask) (end : End) → Asks words problem (to_confirm name) →
+        IfSome files.held (λ h. IsFlat h problem formulas) → IsTaskOf formulas task →
+        OnSecond held (OnModel task.tables.constants formulas name end) name end → OnWords words end
+    by_model problem name formulas task end asks reads has is =
+        inr (problem, to_confirm name, asks, inr (formulas, here (λ h. IsFlat h problem formulas) reads, inr (task, has, is)))
+
+    -- an end by the structure that it has
+    by_structure : (problem name : Text) (formulas : List Fof) (task : CitedTask) (m : Finite) (end : End) → Asks words problem (to_confirm name) →
+        ReadsModel files problem name formulas task m → OnStructure task.tables.constants formulas end m → OnWords words end
+    by_structure problem name formulas task m end asks read is = by_model problem name formulas task end asks read.reads read.has
+        (inr (read.bytes, here (λ h. finite.get h name ≡ Some read.bytes) read.holds.held, read.holds.within, inr (m, read.spells, is)))
+
+    -- an end by a second file that is too long
+    by_long : (problem name : Text) (task : CitedTask) (aim : Aim) (end : End) → Asks words problem aim → second_in aim ≡ Some name →
+        ReadsTask files problem task → IsLong held name MOST_FILE_BYTES → end ≡ on_errors (name ++ too_long_text) 3 → OnWords words end
+    by_long problem name task to_print end asks is read long e = absurd cc
+    by_long problem name task (to_prove most) end asks is read long e = absurd cc
+    by_long problem name task (to_judge wanted format other) end asks is read long e =
+        let same : other ≡ name = value_same is in
+        let asks' = subst (λ n. Asks words problem (to_judge wanted format n)) same asks in
+        by_task problem format name task end (wanted, asks') read (inl (long, e))
+    by_long problem name task (to_confirm other) end asks is read long e =
+        let same : other ≡ name = value_same is in
+        let asks' = subst (λ n. Asks words problem (to_confirm n)) same asks in
+        by_model problem name read.formulas task end asks' read.reads read.has (inl (long, e))
+
     -- an end on the output or the errors that says what the text is
     abbrev Ends : Bool → Text → ℕ → Type 0
     Ends output text status = (said : Said) × OnWords words (record { output = output; said = said; status = status }) × Means words said text
@@ -245,6 +316,7 @@ module _ (held : Held) where
     by_fault to_print end formulas refusal some is e = absurd (some refl)
     by_fault (to_prove most) end formulas refusal some is e = inl (refusal, is, e)
     by_fault (to_judge wanted format name) end formulas refusal some is e = inl (refusal, is, e)
+    by_fault (to_confirm name) end formulas refusal some is e = inl (refusal, is, e)
 
     -- an end by the search in the task of the problem
     by_search : (problem : Text) (most : ℕ) (task : CitedTask) (end : End) → Asks words problem (to_prove most) →
@@ -274,6 +346,11 @@ module _ (held : Held) where
       inr (problem, to_print, asks, inr (formulas, here (λ h. IsFlat h problem formulas) reads, ap (λ t. on_output t 0) is)),
       refl,
     )
+    by_done text (confirmed problem name _ formulas task m asks read counter is) = (
+      exactly text,
+      by_structure problem name formulas task m _ asks read (inl (counter, ap (λ t. on_output t 0) is)),
+      refl,
+    )
 
     -- an answer is an end by the words, unless a fetch failed
     by_row : {output : Bool} {text : Text} {status : ℕ} → Answer words files later output text status → status ≢ 66 → Ends output text status
@@ -282,6 +359,8 @@ module _ (held : Held) where
         (exactly (step_text refusal), by_script problem format second task script _ names reads (inr (refusal, is, refl)), refl)
     by_row (none_up_to problem most task asks read is) some =
         (exactly (none_text most), by_search problem most task _ asks read (inr (is, refl)), refl)
+    by_row (model_fails problem name formulas task m refusal asks read is) some =
+        (exactly (confirm_text refusal), by_structure problem name formulas task m _ asks read (inr (refusal, is, refl)), refl)
     by_row (problem_refused problem file why names is inner) some = (
       exactly (file ++ flat_text why),
       inr (problem, names.0, names.1, inl (file, why, here (λ h. IsFlatRefused h problem file why) is, refl)),
@@ -301,14 +380,20 @@ module _ (held : Held) where
       ),
       refl,
     )
-    by_row (too_long problem second format task names read long) some = (
+    by_row (too_long problem second task names read long) some = (
       exactly (second ++ too_long_text),
-      by_task problem format second task _ names read (inl (here (λ h. IsLong h second MOST_FILE_BYTES) long, refl)),
+      by_long problem second task names.0 _ names.1 names.2 read (here (λ h. IsLong h second MOST_FILE_BYTES) long) refl,
       refl,
     )
     by_row (proof_refused problem second format task bytes why names read is) some = (
       exactly (second ++ proof_text why),
       by_bytes problem format second bytes task _ names read (inl (why, is, refl)),
+      refl,
+    )
+    by_row (model_refused problem second task bytes refusal asks read is) some = (
+      exactly (second ++ model_text refusal),
+      by_model problem second read.reads.formulas task _ asks read.reads.reads read.reads.has
+          (inr (bytes, here (λ h. finite.get h second ≡ Some bytes) read.holds.held, read.holds.within, inl (refusal, is, refl))),
       refl,
     )
     by_row (usage none) some = (exactly usage_text, inl (none, refl), refl)
@@ -326,6 +411,7 @@ looked_same (Some ConvertProblem) files other held told also = (held, told, also
 looked_same (Some ConvertVernacular) files other held told also = (held, told, also)
 looked_same (Some ConvertIsar) files other held told also = (held, told, also)
 looked_same (Some ConvertVersion2) files other held told also = (held, told, also)
+looked_same (Some Confirm) files other held told also = (held, told, also)
 looked_same None files other held told also = (held, told, also)
 
 -- two outcomes of the same words, over files that hold the same

@@ -17,29 +17,33 @@ use Rattle.io_core.specs.Stream.{Stream, Puts, Breaks}
 use Rattle.include_flat.specs.Flattened.{IsFlat}
 use Rattle.include_flat.proofs.Laws.{flat_allowed}
 use Rattle.coherent_form.specs.Tasks.{CitedTask, IsTaskOf, proof_task}
+use Rattle.model_text.specs.Structures.{Finite, IsSound}
+use Rattle.finite_model.specs.Countermodels.{IsCountermodel}
 use Rattle.proof_text.specs.declared.part.Edition.{Edition}
 use Rattle.proof_text.specs.declared.part.Edition.TheVariants.{First, Second}
 use Rattle.larus_cli.specs.declared.command.Command.{Command}
-use Rattle.larus_cli.specs.declared.command.Command.TheVariants.{Check, Prove, ExportIsar, ExportEnglish, ConvertProblem, ConvertVernacular, ConvertIsar, ConvertVersion2, Demo}
+use Rattle.larus_cli.specs.declared.command.Command.TheVariants.{Check, Prove, ExportIsar, ExportEnglish, ConvertProblem, ConvertVernacular, ConvertIsar, ConvertVersion2, Demo, Confirm}
 use Rattle.larus_cli.specs.declared.command.Wanted.{Wanted}
 use Rattle.larus_cli.specs.declared.command.Wanted.TheVariants.{Size, Script}
 use Rattle.larus_cli.specs.declared.command.Wanted.TheVariants as wants
 use Rattle.larus_cli.specs.declared.command.Format.{Format}
 use Rattle.larus_cli.specs.declared.command.Format.TheVariants.{Vernacular, Isar}
 use Rattle.larus_cli.specs.declared.command.TheConstants.{MOST_STEPS}
-use Rattle.larus_cli.specs.Words.{Aim, to_print, to_prove, to_judge, command_of, check_words, prove_words, export_words, isar_words, convert_words, rewrite_words, Asks}
+use Rattle.larus_cli.specs.Words.{Aim, to_print, to_prove, to_judge, to_confirm, command_of, Asks}
+use Rattle.larus_cli.specs.Words.{check_words, prove_words, export_words, isar_words, convert_words, rewrite_words, confirm_words}
 use Rattle.larus_cli.specs.OwnFiles.{looked_in, looked_at, FilesUnasked, AsksNoFile}
 use Rattle.larus_cli.specs.Texts.{none_text}
 use Rattle.larus_cli.specs.Read.{ReadsTask, ReadsProof}
 use Rattle.larus_cli.specs.Smallest.{HasNoProof}
 use Rattle.larus_cli.specs.Sought.{SmallestPrinted, NoneTold}
-use Rattle.larus_cli.specs.Done.{Done, told, judged, proved, converted, KeepsProof}
+use Rattle.larus_cli.specs.Done.{Done, told, judged, proved, converted, confirmed, KeepsProof}
 use Rattle.larus_cli.specs.Follows.{ProblemFollows}
+use Rattle.larus_cli.specs.Refuted.{HasNoBody, ProblemRefuted}
 use Rattle.larus_cli.specs.Printed.{ReadsBack, ReadsBackAs, ProblemPrinted, ProofPrinted, IsarPrinted}
-use Rattle.larus_cli.specs.Answers.{IsAsked, of_problem, as_second, Answer, done, step_refused, none_up_to, problem_refused, formula_refused}
-use Rattle.larus_cli.specs.Answers.{too_long, proof_refused, usage, fault}
+use Rattle.larus_cli.specs.Answers.{IsAsked, of_problem, as_second, Answer, done, step_refused, none_up_to, model_fails, problem_refused, formula_refused}
+use Rattle.larus_cli.specs.Answers.{too_long, proof_refused, model_refused, usage, fault}
 use Rattle.larus_cli.specs.Outcome.{Sinks, sinks, PutsTo, IsReply, Outcome, answered, broken, out_of_memory}
-use Rattle.larus_cli.proofs.Saying.{prove_command, asks_check, asks_prove, asks_export, asks_isar, asks_convert, asks_rewrite, one_problem, one_aim}
+use Rattle.larus_cli.proofs.Saying.{prove_command, asks_check, asks_prove, asks_export, asks_isar, asks_convert, asks_rewrite, asks_confirm, one_problem, one_aim}
 
 -- an answer with status 0 goes to the output, and the command is done
 done_row : {words : List Text} {files later : Known} {output : Bool} {text : Text} {status : ℕ} → Answer words files later output text status →
@@ -74,6 +78,9 @@ looks_export words problem proof files are = subst (λ ws. looked_at ws files �
 looks_isar : (words : List Text) (problem text : Text) (files : Known) → words ≡ isar_words problem text → looked_at words files ≡ files
 looks_isar words problem text files are = subst (λ ws. looked_at ws files ≡ files) (sym are) refl
 
+looks_confirm : (words : List Text) (problem model : Text) (files : Known) → words ≡ confirm_words problem model → looked_at words files ≡ files
+looks_confirm words problem model files are = subst (λ ws. looked_at ws files ≡ files) (sym are) refl
+
 looks_prove : (words : List Text) (problem : Text) (most : ℕ) (files : Known) → most ≤ MOST_STEPS → words ≡ prove_words problem most →
     looked_at words files ≡ files
 looks_prove words problem most files few are = subst (λ ws. looked_at ws files ≡ files) (sym are)
@@ -88,6 +95,15 @@ judged_printed e = cc
 
 sought_printed : {most : ℕ} → to_prove most ≡ to_print → ⊥
 sought_printed e = cc
+
+judged_confirmed : {wanted : Wanted} {format : Format} {second model : Text} → to_judge wanted format second ≡ to_confirm model → ⊥
+judged_confirmed e = cc
+
+sought_confirmed : {most : ℕ} {model : Text} → to_prove most ≡ to_confirm model → ⊥
+sought_confirmed e = cc
+
+printed_confirmed : {model : Text} → to_print ≡ to_confirm model → ⊥
+printed_confirmed e = cc
 
 -- the bound within which a proof is sought is one
 bound_same : {most bound : ℕ} → to_prove most ≡ to_prove bound → most ≡ bound
@@ -135,6 +151,37 @@ follows_of s law {words = words} {files = files} outcome problem proof are e =
         (flat_follows s known.held other read.formulas read.reads (λ allowed. law read.formulas task body allowed read.has reads.accepted.proves))
     by known (proved other text most task body also reads smallest within is back) = absurd (judged_sought (one_aim words asks also))
     by known (converted other text formulas also reads is back) = absurd (judged_printed (one_aim words asks also))
+    by known (confirmed other second text formulas task m also reads counter is) = absurd (judged_confirmed (one_aim words asks also))
+
+-- where the formulas of a flat problem exclude proofs of their task, which may be in a problem, the problem has none
+flat_refuted : (held : Option Held) (name : Text) (formulas : List Fof) (task : CitedTask) → IfSome held (λ h. IsFlat h name formulas) →
+    IsTaskOf formulas task → (AllByRecursion FofIsAllowed formulas → HasNoBody task) →
+    IfSome held (λ h. (fs : List Fof) × IsFlat h name fs × ((t : CitedTask) × IsTaskOf fs t × HasNoBody t))
+flat_refuted None name formulas task flat has none = tt
+flat_refuted (Some h) name formulas task flat has none = (formulas, flat, (task, has, none (flat_allowed h name formulas flat)))
+
+-- a countermodel of a problem excludes each proof of its task
+abbrev Exclusion : Type 0
+Exclusion = (problem : List Fof) (task : CitedTask) (m : Finite) (body : Body) → AllByRecursion FofIsAllowed problem → IsTaskOf problem task →
+    IsSound m → IsCountermodel task.tables.constants problem m → Proves (proof_task task) body → ⊥
+
+-- the problem of a confirmed countermodel has no proof
+pub refuted_of : Exclusion → {words : List Text} {files later : Known} {old new : Sinks} {status : ℕ} → Outcome words files later old new status →
+    (problem model : Text) → words ≡ confirm_words problem model → status ≡ 0 → ProblemRefuted files problem
+refuted_of law {words = words} {files = files} outcome problem model are e =
+    subst (λ f. ProblemRefuted f problem) (looks_confirm words problem model files are) (by (looked_at words files) (done_of outcome e).1)
+  where
+    asks : Asks words problem (to_confirm model)
+    asks = asks_confirm words problem model are
+
+    by : (known : Known) {text : Text} → Done words known text → ProblemRefuted known problem
+    by known (judged wanted format other another text task script body also reads is keeps) = absurd (judged_confirmed (one_aim words also asks))
+    by known (proved other text most task body also reads smallest within is back) = absurd (sought_confirmed (one_aim words also asks))
+    by known (converted other text formulas also reads is back) = absurd (printed_confirmed (one_aim words also asks))
+    by known (confirmed other second text formulas task m also reads counter is) =
+        subst (ProblemRefuted known) (one_problem words also asks)
+        (flat_refuted known.held other formulas task reads.reads reads.has
+        (λ allowed body. law formulas task m body allowed reads.has reads.spells.2.sound counter))
 
 -- where a text is printed that reads back as the formulas of a problem, the problem is printed
 flat_printed : (held : Option Held) (name text : Text) (formulas : List Fof) (old new : Stream) → IfSome held (λ h. IsFlat h name formulas) →
@@ -156,6 +203,7 @@ printed_of {words = words} {files = files} {old = old} {new = new} outcome probl
     by : (known : Known) {text : Text} → Done words known text → Puts old.out new.out text → ProblemPrinted known problem old.out new.out
     by known (judged wanted format other another text task script body also reads is keeps) put = absurd (judged_printed (one_aim words also asks))
     by known (proved other text most task body also reads smallest within is back) put = absurd (sought_printed (one_aim words also asks))
+    by known (confirmed other second text formulas task m also reads counter is) put = absurd (printed_confirmed (one_aim words asks also))
     by known (converted other text formulas also reads is back) put =
         subst (λ p. ProblemPrinted known p old.out new.out) (one_problem words also asks)
         (flat_printed known.held other text formulas old.out new.out reads put back)
@@ -179,6 +227,8 @@ by_asks {words = words} known format edition problem proof old new asks (proved 
     absurd (judged_sought (one_aim words asks also))
 by_asks {words = words} known format edition problem proof old new asks (converted other text formulas also reads is back) put =
     absurd (judged_printed (one_aim words asks also))
+by_asks {words = words} known format edition problem proof old new asks (confirmed other second text formulas task m also reads counter is) put =
+    absurd (judged_confirmed (one_aim words asks also))
 
 -- what is printed for a converted proof reads back
 pub rewritten_of : {words : List Text} {files later : Known} {old new : Sinks} {status : ℕ} → Outcome words files later old new status →
@@ -219,6 +269,7 @@ exported_of {words = words} {files = files} {old = old} {new = new} outcome prob
         (record { task = task; script = script; body = body; reads = read; text = text; puts = put; back = kept })
     by known (proved other text most task body also reads smallest within is back) put = absurd (judged_sought (one_aim words asks also))
     by known (converted other text formulas also reads is back) put = absurd (judged_printed (one_aim words asks also))
+    by known (confirmed other second text formulas task m also reads counter is) put = absurd (judged_confirmed (one_aim words asks also))
 
 -- what is printed for a proof that was sought reads back as a smallest one
 pub proved_of : {words : List Text} {files later : Known} {old new : Sinks} {status : ℕ} → Outcome words files later old new status →
@@ -239,6 +290,7 @@ proved_of {words = words} {files = files} {old = old} {new = new} outcome proble
         subst (λ (k : Text × ℕ). SmallestPrinted known k.0 k.1 old.out new.out) (λ i. (file i, same i))
         (record { task = task; body = body; reads = reads; smallest = smallest; within = within; text = text; puts = put; back = back })
     by known (converted other text formulas also reads is back) put = absurd (sought_printed (one_aim words asks also))
+    by known (confirmed other second text formulas task m also reads counter is) put = absurd (sought_confirmed (one_aim words asks also))
 
 -- where a proof is sought, an answer with status 1 tells that there is none
 none_row : {words : List Text} {files later : Known} {output : Bool} {text : Text} {status : ℕ} → Answer words files later output text status →
@@ -252,6 +304,7 @@ none_row {words = words} {files = files} (none_up_to other bound task also reads
     subst (λ (k : Text × ℕ). (task : CitedTask) × ReadsTask files k.0 task × HasNoProof task k.1) (λ i. (file i, same i)) (task, reads, none) in
     let text : none_text bound ≡ none_text most = ap none_text same in
     (refl, text, there)
+none_row {words = words} (model_fails other second formulas task m refusal also reads is) problem most asks e = absurd (sought_confirmed (one_aim words asks also))
 none_row row problem most asks e = absurd (omega arith)
 
 -- where a proof is sought, status 1 tells that there is none within the bound
@@ -278,11 +331,12 @@ done_some : {words : List Text} {files : Known} {text : Text} → Done words fil
 done_some {words = words} (judged wanted format problem second text task script body asks reads is keeps) none = asks_some words problem _ asks none
 done_some {words = words} (proved problem text most task body asks reads smallest within is back) none = asks_some words problem _ asks none
 done_some {words = words} (converted problem text formulas asks reads is back) none = asks_some words problem _ asks none
+done_some {words = words} (confirmed problem second text formulas task m asks reads counter is) none = asks_some words problem _ asks none
 
 -- words that ask for a file are a command
 asked_some : {words : List Text} {files : Known} {file : Text} → IsAsked words files file → command_of words ≡ None → ⊥
 asked_some {words = words} (of_problem problem names asked) none = asks_some words problem _ names.1 none
-asked_some {words = words} (as_second problem format task names reads) none = asks_some words problem _ names.1 none
+asked_some {words = words} (as_second problem task names reads) none = asks_some words problem _ names.1 none
 
 -- words that are no command are answered with the usage text
 usage_row : {words : List Text} {files later : Known} {output : Bool} {text : Text} {status : ℕ} → Answer words files later output text status →
@@ -290,10 +344,12 @@ usage_row : {words : List Text} {files later : Known} {output : Bool} {text : Te
 usage_row (done text row) none = absurd (done_some row none)
 usage_row {words = words} (step_refused problem second format task script refusal names reads is) none = absurd (asks_some words problem _ names.1 none)
 usage_row {words = words} (none_up_to problem most task asks reads is) none = absurd (asks_some words problem _ asks none)
+usage_row {words = words} (model_fails problem second formulas task m refusal asks reads is) none = absurd (asks_some words problem _ asks none)
 usage_row {words = words} (problem_refused problem file why names told inner) none = absurd (asks_some words problem _ names.1 none)
 usage_row {words = words} (formula_refused problem formulas refusal names reads is) none = absurd (asks_some words problem _ names.1 none)
-usage_row {words = words} (too_long problem second format task names reads long) none = absurd (asks_some words problem _ names.1 none)
+usage_row {words = words} (too_long problem second task names reads long) none = absurd (asks_some words problem _ names.1 none)
 usage_row {words = words} (proof_refused problem second format task bytes why names reads is) none = absurd (asks_some words problem _ names.1 none)
+usage_row {words = words} (model_refused problem second task bytes refusal asks reads is) none = absurd (asks_some words problem _ asks none)
 usage_row (usage is) none = refl
 usage_row (fault file asked fails) none = absurd (asked_some asked none)
 
@@ -322,6 +378,7 @@ rose_looked (Some ConvertProblem) files later rose = rose
 rose_looked (Some ConvertVernacular) files later rose = rose
 rose_looked (Some ConvertIsar) files later rose = rose
 rose_looked (Some ConvertVersion2) files later rose = rose
+rose_looked (Some Confirm) files later rose = rose
 rose_looked None files later rose = rose
 
 -- with status 66 the count of faults of the files rose
@@ -337,10 +394,12 @@ row_status : {words : List Text} {files later : Known} {output : Bool} {text : T
 row_status (done text row) = inl refl
 row_status (step_refused problem second format task script refusal names reads is) = inr (inl refl)
 row_status (none_up_to problem most task asks reads is) = inr (inl refl)
+row_status (model_fails problem second formulas task m refusal asks reads is) = inr (inl refl)
 row_status (problem_refused problem file why names told inner) = inr (inr (inl refl))
 row_status (formula_refused problem formulas refusal names reads is) = inr (inr (inl refl))
-row_status (too_long problem second format task names reads long) = inr (inr (inr (inl refl)))
+row_status (too_long problem second task names reads long) = inr (inr (inr (inl refl)))
 row_status (proof_refused problem second format task bytes refusal names reads is) = inr (inr (inr (inl refl)))
+row_status (model_refused problem second task bytes refusal asks reads is) = inr (inr (inr (inl refl)))
 row_status (usage is) = inr (inr (inr (inr (inl refl))))
 row_status (fault file asked fails) = inr (inr (inr (inr (inr (inl refl)))))
 
@@ -398,6 +457,7 @@ unasked_rose (Some ConvertProblem) files later unasked rose = absurd unasked
 unasked_rose (Some ConvertVernacular) files later unasked rose = absurd unasked
 unasked_rose (Some ConvertIsar) files later unasked rose = absurd unasked
 unasked_rose (Some ConvertVersion2) files later unasked rose = absurd unasked
+unasked_rose (Some Confirm) files later unasked rose = absurd unasked
 
 -- where no file is asked for, the status is not 66
 pub unasked_fetch : {words : List Text} {files later : Known} {old new : Sinks} {status : ℕ} → Outcome words files later old new status →
@@ -417,6 +477,7 @@ unasked_files ConvertProblem unasked other = absurd unasked
 unasked_files ConvertVernacular unasked other = absurd unasked
 unasked_files ConvertIsar unasked other = absurd unasked
 unasked_files ConvertVersion2 unasked other = absurd unasked
+unasked_files Confirm unasked other = absurd unasked
 
 -- a command on files looks at those of the program
 pub looks_plain : (command : Command) (files : Known) → ((k : ℕ) → command ≢ Demo k) → looked_in (Some command) files ≡ files
@@ -429,6 +490,7 @@ looks_plain ConvertProblem files other = refl
 looks_plain ConvertVernacular files other = refl
 looks_plain ConvertIsar files other = refl
 looks_plain ConvertVersion2 files other = refl
+looks_plain Confirm files other = refl
 
 -- a text was put to one sink, or a part of it
 abbrev pub IsPut : Stream → Stream → Text → ℕ → ℕ → Type 0

@@ -1,7 +1,7 @@
 -- What is said where a command ends early is a row of the table of answers.
-use Rattle.std.specs.Prelude.{◌≢◌, IfSome, codes}
+use Rattle.std.specs.Prelude.{◌≢◌, IfSome, IfOk, Result, Ok, Err, codes}
 use Rattle.std.specs.Fmt.{decimal}
-use Rattle.std.proofs.Common.{ℕ, ◌≡◌, ◌≤◌, inl, inr, ◌⊎◌, ◌++◌, false, List, Option, Some, None, ap, sym, subst, refl, ◌∙◌, arith}
+use Rattle.std.proofs.Common.{ℕ, ◌≡◌, ◌≤◌, inl, inr, ◌⊎◌, ◌++◌, true, false, List, Option, Some, None, ap, sym, subst, refl, ◌∙◌, arith}
 use Rattle.text_core.specs.declared.limits.TheConstants.{MOST_FILE_BYTES}
 use Rattle.text_core.specs.Names.{Text}
 use Rattle.text_core.proofs.Laws.{value_same}
@@ -15,13 +15,20 @@ use Rattle.include_flat.specs.declared.refusal.FlatWhy.TheVariants as flat
 use Rattle.include_flat.specs.Refusals.{IsFlatRefused, IsFlatRefusal, IsOutside}
 use Rattle.coherent_form.specs.declared.task_refusal.TaskRefusal.{TaskRefusal}
 use Rattle.coherent_form.specs.declared.task_refusal.TaskWhy.TheVariants as task
-use Rattle.coherent_form.specs.Tasks.{CitedTask, IsTaskFault}
+use Rattle.coherent_form.specs.Tasks.{CitedTask, IsTaskOf, IsTaskFault}
 use Rattle.proof_text.specs.declared.refusal.ScriptRefusal.{ScriptRefusal}
 use Rattle.proof_text.specs.declared.refusal.ScriptRefusal.TheVariants as script
 use Rattle.proof_text.specs.Scripts.{ProofFault}
 use Rattle.isar_text.specs.declared.refusal.IsarRefusal.{IsarRefusal}
 use Rattle.isar_text.specs.declared.refusal.IsarRefusal.TheVariants as isar
 use Rattle.isar_text.specs.Scripts.{IsarFault}
+use Rattle.model_text.specs.declared.refusal.ModelRefusal.{ModelRefusal}
+use Rattle.model_text.specs.declared.refusal.ModelRefusal.TheVariants as model
+use Rattle.model_text.specs.Structures.{Finite}
+use Rattle.model_text.specs.Texts.{ModelFault}
+use Rattle.finite_model.specs.Countermodels.{IsConfirmFault}
+use Rattle.finite_model.specs.declared.refusal.ConfirmRefusal.{ConfirmRefusal}
+use Rattle.finite_model.specs.declared.refusal.ConfirmRefusal.TheVariants as confirm
 use Rattle.proof_text.specs.declared.part.Edition.{Edition}
 use Rattle.proof_text.specs.declared.part.Edition.TheVariants.{First, Second}
 use Rattle.larus_cli.specs.declared.command.Wanted.TheVariants.{Size, Script}
@@ -29,14 +36,15 @@ use Rattle.larus_cli.specs.declared.command.Wanted.TheVariants as wants
 use Rattle.larus_cli.specs.declared.command.Format.{Format}
 use Rattle.larus_cli.specs.declared.command.Format.TheVariants.{Vernacular, Isar}
 use Rattle.larus_cli.specs.declared.report.ProofWhy.TheVariants as reasons
+use Rattle.larus_cli.specs.declared.reading.Halt.{Halt}
 use Rattle.larus_cli.specs.declared.command.Command.TheVariants.{Prove}
 use Rattle.larus_cli.specs.declared.command.TheConstants.{MOST_STEPS}
 use Rattle.larus_cli.specs.Words.{command_of, search_within, names_in, check_words, prove_words, export_words, isar_words, convert_words, rewrite_words}
-use Rattle.larus_cli.specs.Words.{Aim, to_print, to_prove, to_judge, Asks, NamesProblem, NamesTask, NamesBoth}
+use Rattle.larus_cli.specs.Words.{Aim, to_print, to_prove, to_judge, to_confirm, confirm_words, Asks, NamesProblem, NamesTask, NamesSecond, NamesBoth}
 use Rattle.larus_cli.proofs.Digits.{number_some}
-use Rattle.larus_cli.specs.Read.{ReadsProblem, ReadsTask, ReadsBytes}
-use Rattle.larus_cli.specs.Answers.{Answer, of_problem, as_second, problem_refused, formula_refused, too_long, proof_refused, fault}
-use Rattle.larus_cli.specs.Texts.{flat_text, formula_text, fault_text, too_long_text, script_text, isar_text}
+use Rattle.larus_cli.specs.Read.{ReadsProblem, ReadsTask, ReadsBytes, ReadsModel}
+use Rattle.larus_cli.specs.Answers.{Answer, of_problem, as_second, problem_refused, formula_refused, too_long, proof_refused, model_refused, model_fails, fault}
+use Rattle.larus_cli.specs.Texts.{flat_text, formula_text, fault_text, too_long_text, script_text, isar_text, model_text, confirm_text}
 
 -- what the words of a check ask for
 pub asks_check : (words : List Text) (problem proof : Text) → words ≡ check_words problem proof → Asks words problem (to_judge Size Vernacular proof)
@@ -61,6 +69,10 @@ asks_isar words problem text are = subst (λ ws. Asks ws problem (to_judge (Scri
 -- what the words of a problem's conversion ask for
 pub asks_convert : (words : List Text) (problem : Text) → words ≡ convert_words problem → Asks words problem to_print
 asks_convert words problem are = subst (λ ws. Asks ws problem to_print) (sym are) refl
+
+-- what the words ask for that confirm a countermodel
+pub asks_confirm : (words : List Text) (problem model : Text) → words ≡ confirm_words problem model → Asks words problem (to_confirm model)
+asks_confirm words problem model are = subst (λ ws. Asks ws problem (to_confirm model)) (sym are) refl
 
 -- the words by which a proof within a bound is sought are that command
 pub prove_command : (problem : Text) (most : ℕ) → most ≤ MOST_STEPS → command_of (prove_words problem most) ≡ Some (Prove most)
@@ -88,6 +100,13 @@ task_prove words problem most asks = (to_prove most, asks, λ e. cc)
 -- words that name a second file want the problem's task
 pub task_both : (words : List Text) (problem : Text) (format : Format) (second : Text) → NamesBoth words problem format second → NamesTask words problem
 task_both words problem format second names = (to_judge names.0 format second, names.1, λ e. cc)
+
+-- words that confirm a countermodel want the problem's task, and name a second file
+pub task_confirm : (words : List Text) (problem second : Text) → Asks words problem (to_confirm second) → NamesTask words problem
+task_confirm words problem second asks = (to_confirm second, asks, λ e. cc)
+
+pub second_confirm : (words : List Text) (problem second : Text) → Asks words problem (to_confirm second) → NamesSecond words problem second
+second_confirm words problem second asks = (to_confirm second, asks, refl)
 
 -- words that want a problem's task name the problem
 pub problem_task : (words : List Text) (problem : Text) → NamesTask words problem → NamesProblem words problem
@@ -133,6 +152,12 @@ formula_told words files later problem formulas refusal names reads some (inl e)
 formula_told words files later problem formulas refusal names reads some (inr is) =
     formula_refused problem formulas refusal names reads is
 
+-- the task of formulas that were read is that of the problem
+pub task_read : (files : Known) (name : Text) (formulas : List Fof) (result : Result CitedTask Halt) → ReadsProblem files name formulas →
+    IfOk result (IsTaskOf formulas) → IfOk result (ReadsTask files name)
+task_read files name formulas (Ok task) reads has = record { formulas = formulas; reads = reads; has = has }
+task_read files name formulas (Err halt) reads has = tt
+
 -- a fetch that fails behind others
 fails_behind : {before middle later : Known} {name : Text} → Grows before middle → Fails middle later name → Fails before later name
 fails_behind a b = record {
@@ -142,17 +167,17 @@ fails_behind a b = record {
 }
 
 -- a second file that could not be fetched
-pub second_fault : (words : List Text) (before middle later : Known) (problem : Text) (format : Format) (name : Text) (task : CitedTask) →
-    Grows before middle → NamesBoth words problem format name → ReadsTask before problem task → Fails middle later name →
+pub second_fault : (words : List Text) (before middle later : Known) (problem name : Text) (task : CitedTask) →
+    Grows before middle → NamesSecond words problem name → ReadsTask before problem task → Fails middle later name →
     Answer words before later false (name ++ fault_text) 66
-second_fault words before middle later problem format name task grows names reads fails =
-    fault name (as_second problem format task names reads) (fails_behind grows fails)
+second_fault words before middle later problem name task grows names reads fails =
+    fault name (as_second problem task names reads) (fails_behind grows fails)
 
 -- a second file that has too many bytes
-pub second_too_long : (words : List Text) (before middle later : Known) (problem : Text) (format : Format) (name : Text) (task : CitedTask) →
-    Grows before middle → NamesBoth words problem format name → ReadsTask before problem task →
+pub second_too_long : (words : List Text) (before middle later : Known) (problem name : Text) (task : CitedTask) →
+    Grows before middle → NamesSecond words problem name → ReadsTask before problem task →
     IsTooLong MOST_FILE_BYTES name middle later → Answer words before later false (name ++ too_long_text) 3
-second_too_long words before middle later problem format name task grows names reads long = too_long problem name format task names reads
+second_too_long words before middle later problem name task grows names reads long = too_long problem name task names reads
     (subst (λ held. IfSome held (λ h. IsLong h name MOST_FILE_BYTES)) grows.held long.longer)
 
 -- what a later look at the files tells of them was so before
@@ -177,3 +202,26 @@ pub isar_told : (words : List Text) (files later : Known) (problem second : Text
 isar_told words files later problem second task bytes refusal names reads some (inl e) = absurd (some e)
 isar_told words files later problem second task bytes refusal names reads some (inr is) =
     proof_refused problem second Isar task bytes (reasons.Isar refusal) names reads is
+
+-- bytes of a second file that spell no structure
+pub model_told : (words : List Text) (files later : Known) (problem second : Text) (task : CitedTask) (bytes : Text) (refusal : ModelRefusal) →
+    Asks words problem (to_confirm second) → ReadsBytes files problem second task bytes → refusal ≢ model.Memory →
+    (refusal ≡ model.Memory) ⊎ ModelFault bytes refusal → Answer words files later false (second ++ model_text refusal) 3
+model_told words files later problem second task bytes refusal asks reads some (inl e) = absurd (some e)
+model_told words files later problem second task bytes refusal asks reads some (inr is) =
+    model_refused problem second task bytes refusal asks reads is
+
+-- a problem with a structure in a second file has a task, and that file has bytes
+pub model_read : {files : Known} {problem second : Text} {formulas : List Fof} {task : CitedTask} {m : Finite} →
+    (reads : ReadsModel files problem second formulas task m) → ReadsBytes files problem second task reads.bytes
+model_read {formulas = formulas} reads =
+    record { reads = record { formulas = formulas; reads = reads.reads; has = reads.has }; holds = reads.holds }
+
+-- a structure that is no countermodel
+pub confirm_told : (words : List Text) (files later : Known) (problem second : Text) (formulas : List Fof) (task : CitedTask) (m : Finite)
+    (refusal : ConfirmRefusal) → Asks words problem (to_confirm second) → ReadsModel files problem second formulas task m →
+    refusal ≢ confirm.Memory → (refusal ≡ confirm.Memory) ⊎ IsConfirmFault task.tables.constants formulas m refusal →
+    Answer words files later true (confirm_text refusal) 1
+confirm_told words files later problem second formulas task m refusal asks reads some (inl e) = absurd (some e)
+confirm_told words files later problem second formulas task m refusal asks reads some (inr is) =
+    model_fails problem second formulas task m refusal asks reads is

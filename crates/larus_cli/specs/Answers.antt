@@ -13,12 +13,18 @@ use Rattle.coherent_form.specs.Tasks.{CitedTask, IsTaskFault}
 use Rattle.proof_text.specs.Values.{Written}
 use Rattle.proof_checker.specs.declared.refusal.StepRefusal.{StepRefusal}
 use Rattle.proof_checker.specs.Faults.{IsFault}
+use Rattle.model_text.specs.Structures.{Finite}
+use Rattle.model_text.specs.Texts.{ModelFault}
+use Rattle.model_text.specs.declared.refusal.ModelRefusal.{ModelRefusal}
+use Rattle.finite_model.specs.Countermodels.{IsConfirmFault}
+use Rattle.finite_model.specs.declared.refusal.ConfirmRefusal.{ConfirmRefusal}
 use Rattle.larus_cli.specs.declared.command.Format.{Format}
 use Rattle.larus_cli.specs.declared.report.ProofWhy.{ProofWhy}
-use Rattle.larus_cli.specs.Words.{command_of, to_prove, Asks, NamesProblem, NamesTask, NamesBoth}
+use Rattle.larus_cli.specs.Words.{command_of, to_prove, to_confirm, Asks}
+use Rattle.larus_cli.specs.Words.{NamesProblem, NamesTask, NamesSecond, NamesBoth}
 use Rattle.larus_cli.specs.Texts.{fault_text, too_long_text, flat_text, formula_text}
-use Rattle.larus_cli.specs.Texts.{proof_text, step_text, none_text, usage_text}
-use Rattle.larus_cli.specs.Read.{ReadsProblem, ReadsTask, ReadsBytes, SpellsNone, ReadsScript}
+use Rattle.larus_cli.specs.Texts.{proof_text, model_text, step_text, none_text, confirm_text, usage_text}
+use Rattle.larus_cli.specs.Read.{ReadsProblem, ReadsTask, ReadsBytes, SpellsNone, ReadsScript, ReadsModel}
 use Rattle.larus_cli.specs.Smallest.{HasNoProof}
 use Rattle.larus_cli.specs.Done.{Done}
 
@@ -26,8 +32,7 @@ use Rattle.larus_cli.specs.Done.{Done}
 pub data IsAsked (words : List Text) (files : Known) (file : Text) : Type 0 where
   of_problem : (problem : Text) → NamesProblem words problem →
       IfSome files.held (λ held. IsAskedFor held problem file) → IsAsked words files file
-  as_second : (problem : Text) (format : Format) (task : CitedTask) →
-      NamesBoth words problem format file →
+  as_second : (problem : Text) (task : CitedTask) → NamesSecond words problem file →
       ReadsTask files problem task → IsAsked words files file
 
 -- a text goes to the output (true) or to the errors (false), with a status; the files are those at
@@ -44,6 +49,12 @@ pub data Answer (words : List Text) (files later : Known) : Bool → Text → �
   none_up_to : (problem : Text) (most : ℕ) (task : CitedTask) →
       Asks words problem (to_prove most) → ReadsTask files problem task → HasNoProof task most →
       Answer words files later true (none_text most) 1
+  -- 1: the structure is no countermodel of the problem
+  model_fails : (problem second : Text) (formulas : List Fof) (task : CitedTask) (m : Finite)
+      (refusal : ConfirmRefusal) → Asks words problem (to_confirm second) →
+      ReadsModel files problem second formulas task m →
+      IsConfirmFault task.tables.constants formulas m refusal →
+      Answer words files later true (confirm_text refusal) 1
   -- 2: a file of the problem is refused
   problem_refused : (problem file : Text) (why : FlatWhy) → NamesProblem words problem →
       IfSome files.held (λ held. IsFlatRefused held problem file why) → ¬ (IsOutside why) →
@@ -54,8 +65,8 @@ pub data Answer (words : List Text) (files later : Known) : Bool → Text → �
       IsTaskFault formulas refusal →
       Answer words files later false (formula_text refusal) 2
   -- 3: the second file has too many bytes
-  too_long : (problem second : Text) (format : Format) (task : CitedTask) →
-      NamesBoth words problem format second → ReadsTask files problem task →
+  too_long : (problem second : Text) (task : CitedTask) →
+      NamesSecond words problem second → ReadsTask files problem task →
       IfSome files.held (λ held. IsLong held second MOST_FILE_BYTES) →
       Answer words files later false (second ++ too_long_text) 3
   -- 3: the bytes of the second file spell no script
@@ -63,6 +74,11 @@ pub data Answer (words : List Text) (files later : Known) : Bool → Text → �
       (why : ProofWhy) → NamesBoth words problem format second →
       ReadsBytes files problem second task bytes → SpellsNone format task bytes why →
       Answer words files later false (second ++ proof_text why) 3
+  -- 3: the bytes of the second file spell no structure
+  model_refused : (problem second : Text) (task : CitedTask) (bytes : Text)
+      (refusal : ModelRefusal) → Asks words problem (to_confirm second) →
+      ReadsBytes files problem second task bytes → ModelFault bytes refusal →
+      Answer words files later false (second ++ model_text refusal) 3
   -- 64: the words are no command
   usage : command_of words ≡ None → Answer words files later false usage_text 64
   -- 66: a file that was asked for could not be fetched

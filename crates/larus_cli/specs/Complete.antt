@@ -9,25 +9,33 @@ use Rattle.io_core.specs.Causes.{Rose}
 use Rattle.io_core.specs.Known.{Known}
 use Rattle.coherent_form.specs.Tasks.{CitedTask, proof_task}
 use Rattle.proof_text.specs.Values.{Written}
-use Rattle.larus_cli.specs.Words.{Aim, to_print, to_prove, to_judge}
-use Rattle.larus_cli.specs.Read.{ReadsProblem, ReadsTask, ReadsScript, ReadsProof}
+use Rattle.model_text.specs.Structures.{Finite}
+use Rattle.finite_model.specs.Countermodels.{IsCountermodel}
+use Rattle.larus_cli.specs.Words.{Aim, to_print, to_prove, to_judge, to_confirm}
+use Rattle.larus_cli.specs.Read.{ReadsProblem, ReadsTask, ReadsScript, ReadsProof, ReadsModel}
 use Rattle.larus_cli.specs.Outcome.{Sinks}
 
 -- what is asked for is there, in its grammar and within its limits: the problem is flat, has a task
--- where that is wanted, and the second file spells a script where there is one
+-- where that is wanted, and the second file spells a script or a structure where there is one
 abbrev pub IsReadable : Known → Text → Aim → Type 0
 IsReadable files problem to_print = (formulas : List Fof) × ReadsProblem files problem formulas
 IsReadable files problem (to_prove most) = (task : CitedTask) × ReadsTask files problem task
 IsReadable files problem (to_judge wanted format second) =
     (task : CitedTask) × (script : Written) × ReadsScript format files problem second task script
+IsReadable files problem (to_confirm second) = (formulas : List Fof) × (task : CitedTask) ×
+    (m : Finite) × ReadsModel files problem second formulas task m
 
--- besides, a proof that is sought is there within the bound, and the script is accepted
+-- besides, a proof that is sought is there within the bound, the script is accepted, and the
+-- structure is a countermodel
 abbrev pub CanBeDone : Known → Text → Aim → Type 0
 CanBeDone files problem to_print = (formulas : List Fof) × ReadsProblem files problem formulas
 CanBeDone files problem (to_prove most) = (task : CitedTask) × ReadsTask files problem task ×
     ((body : Body) × Proves (proof_task task) body × (size body ≤ most))
 CanBeDone files problem (to_judge wanted format second) = (task : CitedTask) × (script : Written) ×
     (body : Body) × ReadsProof format files problem second task script body
+CanBeDone files problem (to_confirm second) = (formulas : List Fof) × (task : CitedTask) ×
+    (m : Finite) × ReadsModel files problem second formulas task m ×
+    IsCountermodel task.tables.constants formulas m
 
 -- no call to the outside failed
 pub record NoFault (files later : Known) (old new : Sinks) : Type 0 where

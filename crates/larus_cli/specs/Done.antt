@@ -13,13 +13,15 @@ use Rattle.proof_text.specs.ScriptOf.{script_of}
 use Rattle.proof_text.specs.Values.{Written}
 use Rattle.isar_text.specs.Bodies.{isar_proof}
 use Rattle.english_text.specs.English.{english_text}
+use Rattle.model_text.specs.Structures.{Finite}
+use Rattle.finite_model.specs.Countermodels.{IsCountermodel}
 use Rattle.larus_cli.specs.declared.command.Format.{Format}
 use Rattle.larus_cli.specs.declared.command.Wanted.{Wanted}
 use Rattle.larus_cli.specs.declared.command.Wanted.TheVariants.{Size, Script, Isar, English, Demo}
-use Rattle.larus_cli.specs.Texts.{accepted_text, demo_text}
-use Rattle.larus_cli.specs.Words.{to_print, to_prove, to_judge, Asks}
+use Rattle.larus_cli.specs.Texts.{accepted_text, demo_text, countermodel_text}
+use Rattle.larus_cli.specs.Words.{to_print, to_prove, to_judge, to_confirm, Asks}
 use Rattle.larus_cli.specs.Smallest.{IsSmallest}
-use Rattle.larus_cli.specs.Read.{ReadsProblem, ReadsTask, ReadsProof}
+use Rattle.larus_cli.specs.Read.{ReadsProblem, ReadsTask, ReadsProof, ReadsModel}
 use Rattle.larus_cli.specs.Printed.{ReadsBack, ReadsBackAs, ReadsBackInIsar}
 
 -- what is printed for an accepted proof: its size; the canonical text, of a version, of the script
@@ -56,4 +58,10 @@ pub data Done (words : List Text) (files : Known) : Text → Type 0 where
   -- the text is the canonical one of the problem, and reads back as its formulas
   converted : (problem text : Text) (formulas : List Fof) → Asks words problem to_print →
       ReadsProblem files problem formulas → text ≡ problem_text formulas → ReadsBack text formulas →
+      Done words files text
+  -- the structure in the second file is a countermodel of the problem
+  confirmed : (problem second text : Text) (formulas : List Fof) (task : CitedTask) (m : Finite) →
+      Asks words problem (to_confirm second) →
+      ReadsModel files problem second formulas task m →
+      IsCountermodel task.tables.constants formulas m → text ≡ countermodel_text m.size →
       Done words files text

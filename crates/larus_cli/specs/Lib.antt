@@ -3,6 +3,7 @@ pub mod Words
 pub mod OwnFiles
 pub mod Texts
 pub mod Follows
+pub mod Refuted
 pub mod Read
 pub mod Printed
 pub mod Smallest

@@ -11,6 +11,8 @@ use Rattle.coherent_form.specs.Tasks.{CitedTask, IsTaskOf}
 use Rattle.proof_text.specs.Values.{Written}
 use Rattle.proof_text.specs.Scripts.{IsScriptOf, ProofFault}
 use Rattle.isar_text.specs.Scripts.{IsIsarOf, IsarFault}
+use Rattle.model_text.specs.Structures.{Finite}
+use Rattle.model_text.specs.Texts.{IsModelOf}
 use Rattle.proof_checker.specs.Accepted.{IsAcceptedAs}
 use Rattle.larus_cli.specs.declared.command.Format.{Format}
 use Rattle.larus_cli.specs.declared.command.Format.TheVariants as reads
@@ -58,3 +60,13 @@ pub record ReadsProof (format : Format) (files : Known) (problem second : Text) 
     (script : Written) (body : Body) : Type 0 where
   pub reads : ReadsScript format files problem second task script
   pub accepted : IsAcceptedAs task script body
+
+-- the problem in this file has these formulas and this task, and the bytes of the second file spell
+-- this structure
+pub record ReadsModel (files : Known) (problem second : Text) (formulas : List Fof)
+    (task : CitedTask) (m : Finite) : Type 0 where
+  pub bytes : Text
+  pub reads : ReadsProblem files problem formulas
+  pub has : IsTaskOf formulas task
+  pub holds : Holds files second bytes MOST_FILE_BYTES
+  pub spells : IsModelOf bytes m

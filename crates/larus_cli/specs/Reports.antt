@@ -5,11 +5,13 @@ use Rattle.io_core.specs.Known.{Known}
 use Rattle.larus_cli.specs.declared.report.Report.{Report}
 use Rattle.larus_cli.specs.declared.report.Report.TheVariants.{Accepted, Refused, Converted, NoneUpTo, Demo, FileFault}
 use Rattle.larus_cli.specs.declared.report.Report.TheVariants.{ProblemFile, ProblemFormula, ProofFile}
+use Rattle.larus_cli.specs.declared.report.Report.TheVariants.{ModelFile, Countermodel, Confirm}
 use Rattle.larus_cli.specs.declared.reply.Reply.{Reply}
 use Rattle.larus_cli.specs.declared.reading.Halt.{Halt}
 use Rattle.larus_cli.specs.declared.reading.Halt.TheVariants as halt
 use Rattle.larus_cli.specs.Texts.{fault_text, flat_text}
-use Rattle.larus_cli.specs.Texts.{formula_text, proof_text, step_text, accepted_text, none_text, demo_text}
+use Rattle.larus_cli.specs.Texts.{formula_text, proof_text, model_text, step_text, accepted_text, none_text}
+use Rattle.larus_cli.specs.Texts.{demo_text, countermodel_text, confirm_text}
 use Rattle.larus_cli.specs.Answers.{Answer}
 
 -- what is printed for a report, where and with which status
@@ -27,6 +29,11 @@ reply_of (ProblemFormula refusal) =
     record { text = formula_text refusal; is_output = false; status = 2 }
 reply_of (ProofFile refusal) =
     record { text = refusal.file ++ proof_text refusal.why; is_output = false; status = 3 }
+reply_of (ModelFile file refusal) =
+    record { text = file ++ model_text refusal; is_output = false; status = 3 }
+reply_of (Countermodel size) =
+    record { text = countermodel_text size; is_output = true; status = 0 }
+reply_of (Confirm refusal) = record { text = confirm_text refusal; is_output = true; status = 1 }
 
 -- the report is a row of the table of answers
 abbrev pub IsAnswer : List Text → Known → Known → Report → Type 0

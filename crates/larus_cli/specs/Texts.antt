@@ -15,6 +15,10 @@ use Rattle.proof_text.specs.declared.refusal.ScriptRefusal.{ScriptRefusal}
 use Rattle.proof_text.specs.declared.refusal.ScriptRefusal.TheVariants as script
 use Rattle.isar_text.specs.declared.refusal.IsarRefusal.{IsarRefusal}
 use Rattle.isar_text.specs.declared.refusal.IsarRefusal.TheVariants as isar
+use Rattle.model_text.specs.declared.refusal.ModelRefusal.{ModelRefusal}
+use Rattle.model_text.specs.declared.refusal.ModelRefusal.TheVariants as model
+use Rattle.finite_model.specs.declared.refusal.ConfirmRefusal.{ConfirmRefusal}
+use Rattle.finite_model.specs.declared.refusal.ConfirmRefusal.TheVariants as confirm
 use Rattle.proof_checker.specs.declared.refusal.Rule.{Rule}
 use Rattle.proof_checker.specs.declared.refusal.Rule.TheVariants as rule
 use Rattle.proof_checker.specs.declared.refusal.Why.{Why}
@@ -105,6 +109,15 @@ proof_text second.FileTooLong = too_long_text
 proof_text (second.Script refusal) = script_text refusal
 proof_text (second.Isar refusal) = isar_text refusal
 
+-- what is behind the name of a file whose bytes spell no structure; nothing is told of want of
+-- memory
+abbrev pub model_text : ModelRefusal → Text
+model_text (model.Lex refusal) = lexical_text refusal
+model_text (model.ModelSyntax offset) = at_offset offset (codes ": 51 ModelSyntax")
+model_text (model.ModelRange offset) = at_offset offset (codes ": 52 ModelRange")
+model_text (model.ModelTwice offset) = at_offset offset (codes ": 53 ModelTwice")
+model_text model.Memory = []
+
 -- the word of a rule
 abbrev pub rule_text : Rule → Text
 rule_text rule.Take = codes "take"
@@ -156,9 +169,21 @@ abbrev pub step_text : StepRefusal → Text
 step_text refusal = codes "refused " ++ decimal refusal.step ++ codes " " ++
     rule_text refusal.rule ++ codes " " ++ ended (why_text refusal.why)
 
+abbrev pub countermodel_text : ℕ → Text
+countermodel_text size = codes "countermodel " ++ ended (decimal size)
+
+-- why a structure is no countermodel; nothing is told of want of memory
+abbrev pub confirm_text : ConfirmRefusal → Text
+confirm_text (confirm.ModelPlace number) =
+    codes "refused model 54 ModelPlace " ++ ended (decimal number)
+confirm_text (confirm.ModelFails number) =
+    codes "refused model 55 ModelFails " ++ ended (decimal number)
+confirm_text confirm.Memory = []
+
 abbrev pub usage_text : Text
 usage_text = ended (codes "44 Usage") ++ ended (codes "check PROBLEM PROOF") ++
     ended (codes "prove PROBLEM MOST") ++
     ended (codes "export isar PROBLEM PROOF") ++ ended (codes "export english PROBLEM PROOF") ++
     ended (codes "convert problem PROBLEM") ++ ended (codes "convert vernacular PROBLEM PROOF") ++
-    ended (codes "convert isar PROBLEM ISARTEXT") ++ ended (codes "demo K") ++ ended (codes "convert version2 PROBLEM PROOF")
+    ended (codes "convert isar PROBLEM ISARTEXT") ++ ended (codes "demo K") ++
+    ended (codes "convert version2 PROBLEM PROOF") ++ ended (codes "confirm PROBLEM MODEL")

@@ -8,7 +8,7 @@ use Rattle.proof_text.specs.declared.part.Edition.TheVariants.{First, Second}
 use Rattle.problem_suite.specs.declared.made.TheConstants.{MOST_IMPLICATIONS}
 use Rattle.problem_suite.specs.MadeTexts.{made_problem_text, made_proof_text}
 use Rattle.larus_cli.specs.declared.command.Command.{Command}
-use Rattle.larus_cli.specs.declared.command.Command.TheVariants.{Check, Prove, ExportIsar, ExportEnglish, ConvertProblem, ConvertVernacular, ConvertIsar, ConvertVersion2, Demo}
+use Rattle.larus_cli.specs.declared.command.Command.TheVariants.{Check, Prove, ExportIsar, ExportEnglish, ConvertProblem, ConvertVernacular, ConvertIsar, ConvertVersion2, Demo, Confirm}
 use Rattle.larus_cli.specs.declared.command.Format.{Format}
 use Rattle.larus_cli.specs.declared.command.Format.TheVariants as reads
 use Rattle.larus_cli.specs.declared.command.Wanted.{Wanted}
@@ -40,16 +40,17 @@ conversion_of word = if bytes_eq word (codes "vernacular") then Some ConvertVern
 
 -- `check PROBLEM PROOF`, `prove PROBLEM MOST`, `export isar PROBLEM PROOF`,
 -- `export english PROBLEM PROOF`, `convert problem PROBLEM`, `convert vernacular PROBLEM PROOF`,
--- `convert isar PROBLEM ISARTEXT`, `convert version2 PROBLEM PROOF` and `demo K`, with any words for
--- the names, MOST in decimal, at most `MOST_STEPS`, and K in decimal, from 1 to
--- `MOST_IMPLICATIONS`; all other lists are no command
+-- `convert isar PROBLEM ISARTEXT`, `convert version2 PROBLEM PROOF`, `demo K` and
+-- `confirm PROBLEM MODEL`, with any words for the names, MOST in decimal, at most `MOST_STEPS`, and K
+-- in decimal, from 1 to `MOST_IMPLICATIONS`; all other lists are no command
 abbrev pub command_of : List Text → Option Command
 command_of (first ∷ second ∷ []) =
     if bytes_eq first (codes "demo") then demo_within (number_of MOST_IMPLICATIONS second) else None
 command_of (first ∷ second ∷ third ∷ []) = if bytes_eq first (codes "check") then Some Check else
     (if bytes_eq first (codes "prove") then search_within (number_of MOST_STEPS third) else
     (if bytes_eq first (codes "convert")
-    then (if bytes_eq second (codes "problem") then Some ConvertProblem else None) else None))
+    then (if bytes_eq second (codes "problem") then Some ConvertProblem else None) else
+    (if bytes_eq first (codes "confirm") then Some Confirm else None)))
 command_of (first ∷ second ∷ third ∷ fourth ∷ []) =
     if bytes_eq first (codes "export") then export_of second else
     (if bytes_eq first (codes "convert") then conversion_of second else None)
@@ -72,6 +73,9 @@ isar_words problem text = codes "convert" ∷ codes "isar" ∷ problem ∷ text 
 abbrev pub convert_words : Text → List Text
 convert_words problem = codes "convert" ∷ codes "problem" ∷ problem ∷ []
 
+abbrev pub confirm_words : Text → Text → List Text
+confirm_words problem model = codes "confirm" ∷ problem ∷ model ∷ []
+
 -- the word of a version
 abbrev pub edition_word : Edition.Edition → Text
 edition_word First = codes "vernacular"
@@ -81,12 +85,20 @@ abbrev pub rewrite_words : Edition.Edition → Text → Text → List Text
 rewrite_words edition problem proof =
     codes "convert" ∷ edition_word edition ∷ problem ∷ proof ∷ []
 
--- what is asked of a problem: its text, a proof within a bound, or something of the proof in a
--- second file, which is read in this format
+-- what is asked of a problem: its text, a proof within a bound, something of the proof in a second
+-- file, which is read in this format, or whether the structure in a second file is a countermodel
 pub data Aim : Type 0 where
   to_print : Aim
   to_prove : ℕ → Aim
   to_judge : Wanted → Format → Text → Aim
+  to_confirm : Text → Aim
+
+-- the second file, where one is asked for
+abbrev pub second_in : Aim → Option Text
+second_in to_print = None
+second_in (to_prove most) = None
+second_in (to_judge wanted format second) = Some second
+second_in (to_confirm second) = Some second
 
 -- what is wanted of the proof in a second file, by the command that names one
 abbrev pub wanted_in : Option Command → Option Wanted
@@ -131,6 +143,7 @@ demo_wanted k = wants.Demo k (length (made_problem_text k)) (length (made_proof_
 abbrev pub names_in : Option Command → List Text → Option (Text × Aim)
 names_in (Some (Prove most)) (first ∷ problem ∷ bound ∷ []) = Some (problem, to_prove most)
 names_in (Some ConvertProblem) (first ∷ second ∷ problem ∷ []) = Some (problem, to_print)
+names_in (Some Confirm) (first ∷ problem ∷ second ∷ []) = Some (problem, to_confirm second)
 names_in (Some (Demo k)) words =
     Some (demo_problem, to_judge (demo_wanted k) reads.Vernacular demo_proof)
 names_in command words = judged_names (wanted_in command) (format_in command) words
@@ -150,7 +163,12 @@ NamesProblem words problem = (aim : Aim) × Asks words problem aim
 abbrev pub NamesTask : List Text → Text → Type 0
 NamesTask words problem = (aim : Aim) × Asks words problem aim × (aim ≢ to_print)
 
--- the words are a command on this problem's file and this second file, which is read in this format
+-- the words are a command on this problem's file and this second file
+abbrev pub NamesSecond : List Text → Text → Text → Type 0
+NamesSecond words problem second =
+    (aim : Aim) × Asks words problem aim × (second_in aim ≡ Some second)
+
+-- they are one on this problem's file and this second file, which is read as a proof in this format
 abbrev pub NamesBoth : List Text → Text → Format → Text → Type 0
 NamesBoth words problem format second =
     (wanted : Wanted) × Asks words problem (to_judge wanted format second)

@@ -4,7 +4,7 @@ ghost use Rattle.problem_suite.specs.declared.made.TheConstants.{MOST_IMPLICATIO
 ghost use Rattle.larus_cli.specs.declared.command.Format.{Format};
 ghost use Rattle.larus_cli.specs.declared.command.Wanted.{Wanted};
 ghost use Rattle.larus_cli.specs.Numerals.{number_of};
-ghost use Rattle.larus_cli.specs.Words.{command_of, export_of, conversion_of, search_within, demo_within, wanted_of, format_of, to_print, to_prove, to_judge, Asks};
+ghost use Rattle.larus_cli.specs.Words.{command_of, export_of, conversion_of, search_within, demo_within, wanted_of, format_of, to_print, to_prove, to_judge, to_confirm, Asks};
 
 use crate::number::read_number;
 use logic_core::Bytes;
@@ -41,6 +41,8 @@ pub enum Command {
     /// `demo K`: whether the made proof for so many implications, from 1 to `MOST_IMPLICATIONS`, is
     /// accepted as a proof of the made problem.
     Demo(u32),
+    /// `confirm PROBLEM MODEL`: whether the finite structure is a countermodel of the problem.
+    Confirm,
 }
 
 /// How a second file is read.
@@ -88,6 +90,8 @@ pub fn read_words(words: &[Bytes]) -> Option<Command>
                 search(third.as_slice())
             } else if first.as_slice() == b"convert".as_slice() {
                 conversion(second.as_slice())
+            } else if first.as_slice() == b"confirm".as_slice() {
+                Some(Command::Confirm)
             } else {
                 None
             }
@@ -200,6 +204,17 @@ pub(crate) fn convert_name(words: &[Bytes]) -> &[u8]
 {
     match words {
         [_, _, problem] => problem.as_slice(),
+        _ => unreachable!(),
+    }
+}
+
+/// The names of the problem's and the model's file in the words that confirm a countermodel.
+pub(crate) fn confirm_names(words: &[Bytes]) -> (&[u8], &[u8])
+    requires { command_of words.now ≡ Some Command.Confirm }
+    ensures { Asks words.now result.0.now (to_confirm result.1.now) }
+{
+    match words {
+        [_, problem, model] => (problem.as_slice(), model.as_slice()),
         _ => unreachable!(),
     }
 }

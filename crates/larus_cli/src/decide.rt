@@ -5,7 +5,10 @@ ghost use Rattle.larus_cli.specs.OwnFiles.{looked_at, AsksNoFile};
 ghost use Rattle.larus_cli.specs.Outcome.{IsReply};
 ghost use Rattle.larus_cli.specs.Reports.{Decides};
 
-use crate::command::{Command, Format, Wanted, convert_name, file_names, prove_name};
+use crate::command::{
+    Command, Format, Wanted, confirm_names, convert_name, file_names, prove_name,
+};
+use crate::confirm::confirm;
 use crate::demo::demonstrate;
 use crate::judge::judge;
 use crate::reading::{Halt, read_problem, read_task};
@@ -58,6 +61,16 @@ fn convert_problem<F: Files>(alloc: Global, words: &[Bytes], files: &mut F) -> R
     Ok(Report::Converted(text))
 }
 
+/// What there is to say of the structure in a second file, against a problem.
+fn confirm_files<F: Files>(alloc: Global, words: &[Bytes], files: &mut F) -> Result<Report, Halt>
+    requires { command_of words.now ≡ Some Command.Confirm }
+    ensures decides { Decides words.now (F.known files.old) (F.known files.new) result }
+    ensures grows { Grows (F.known files.old) (F.known files.new) }
+{
+    let (problem, model) = confirm_names(words);
+    confirm(alloc, files, problem, model)
+}
+
 /// What there is to say to words that are a command on files.
 fn decide_files<F: Files>(
     alloc: Global,
@@ -102,6 +115,7 @@ fn decide_files<F: Files>(
             files,
         ),
         Command::Demo(_) => unreachable!(),
+        Command::Confirm => confirm_files(alloc, words, files),
     }
 }
 

@@ -7,6 +7,7 @@ use std::process::ExitCode;
 
 mod arguments;
 mod command;
+mod confirm;
 mod decide;
 mod demo;
 mod judge;

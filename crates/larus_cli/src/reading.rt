@@ -3,13 +3,12 @@ ghost use Rattle.text_core.specs.Names.{Text};
 ghost use Rattle.text_core.specs.declared.limits.TheConstants.{MOST_FILE_BYTES};
 ghost use Rattle.io_core.specs.Known.{Known};
 ghost use Rattle.io_core.specs.Fetched.{Grows, Holds};
-ghost use Rattle.coherent_form.specs.Tasks.{CitedTask};
+ghost use Rattle.coherent_form.specs.Tasks.{CitedTask, IsTaskOf};
 ghost use Rattle.proof_text.specs.Scripts.{IsScriptOf};
 ghost use Rattle.isar_text.specs.Scripts.{IsIsarOf};
 ghost use Rattle.larus_cli.specs.declared.report.Report.TheVariants.{ProofFile};
-ghost use Rattle.larus_cli.specs.declared.command.Format.{Format as Reading};
 ghost use Rattle.larus_cli.specs.declared.command.Format.TheVariants as reads;
-ghost use Rattle.larus_cli.specs.Words.{NamesProblem, NamesTask, NamesBoth};
+ghost use Rattle.larus_cli.specs.Words.{NamesProblem, NamesTask, NamesSecond, NamesBoth};
 ghost use Rattle.larus_cli.specs.Read.{ReadsProblem, ReadsTask, ReadsBytes, Spells};
 ghost use Rattle.larus_cli.specs.Reports.{Halts};
 
@@ -63,6 +62,21 @@ pub(crate) fn read_problem<F: Files>(
     }
 }
 
+/// The task of a problem, which is in the file that the words name.
+pub(crate) fn build_task(alloc: Global, problem: &Problem) -> Result<Task, Halt>
+    ensures has { IfOk result (IsTaskOf problem.now) }
+    ensures halts { (words : Lst Text) (files later : Known) (name : Text) → NamesTask words name
+        → ReadsProblem files name problem.now → IfErr result (Halts words files later) }
+{
+    match Task::build(alloc, problem) {
+        Ok(task) => Ok(task),
+        Err(refusal) => match refusal.why {
+            TaskWhy::Memory => Err(Halt::Memory),
+            _ => Err(Halt::Said(Report::ProblemFormula(refusal))),
+        },
+    }
+}
+
 /// The task of the problem in a file.
 pub(crate) fn read_task<F: Files>(alloc: Global, files: &mut F, name: &[u8]) -> Result<Task, Halt>
     ensures reads { IfOk result (ReadsTask (F.known files.old) name.now) }
@@ -71,13 +85,7 @@ pub(crate) fn read_task<F: Files>(alloc: Global, files: &mut F, name: &[u8]) -> 
     ensures grows { Grows (F.known files.old) (F.known files.new) }
 {
     let problem = read_problem(alloc, files, name)?;
-    match Task::build(alloc, &problem) {
-        Ok(task) => Ok(task),
-        Err(refusal) => match refusal.why {
-            TaskWhy::Memory => Err(Halt::Memory),
-            _ => Err(Halt::Said(Report::ProblemFormula(refusal))),
-        },
-    }
+    build_task(alloc, &problem)
 }
 
 /// What is said of a second file that is refused.
@@ -96,9 +104,9 @@ pub(crate) fn read_second<F: Files>(
 ) -> Result<Bytes, Halt>
     ensures holds { IfOk result (λ bytes. Holds
         (F.known files.old) name.now bytes MOST_FILE_BYTES) }
-    ensures halts { (words : Lst Text) (before : Known) (problem : Text) (format : Reading)
-        (task : CitedTask) → Grows before (F.known files.old)
-        → NamesBoth words problem format name.now → ReadsTask before problem task
+    ensures halts { (words : Lst Text) (before : Known) (problem : Text) (task : CitedTask)
+        → Grows before (F.known files.old)
+        → NamesSecond words problem name.now → ReadsTask before problem task
         → IfErr result (Halts words before (F.known files.new)) }
     ensures grows { Grows (F.known files.old) (F.known files.new) }
 {

@@ -5,6 +5,7 @@ ghost use Rattle.larus_cli.specs.Reports.{reply_of};
 
 use crate::report::{ProofRefusal, ProofWhy, Report};
 use coherent_form::{TaskRefusal, TaskWhy};
+use finite_model::{ConfirmRefusal, ModelRefusal};
 use include_flat::{FlatRefusal, FlatWhy};
 use isar_text::IsarRefusal;
 use logic_core::{Bytes, Memory};
@@ -143,6 +144,18 @@ fn proof(alloc: Global, refusal: &ProofRefusal) -> Result<Bytes, Memory>
     }
 }
 
+fn model(alloc: Global, file: &[u8], refusal: &ModelRefusal) -> Result<Bytes, Memory>
+    ensures { IfOk result (λ all. all ≡ file.now ++ texts.model_text refusal.now) }
+{
+    match refusal {
+        ModelRefusal::Lex(refusal) => lexical(alloc, file, refusal),
+        ModelRefusal::ModelSyntax(offset) => at_offset(alloc, file, *offset, b": 51 ModelSyntax"),
+        ModelRefusal::ModelRange(offset) => at_offset(alloc, file, *offset, b": 52 ModelRange"),
+        ModelRefusal::ModelTwice(offset) => at_offset(alloc, file, *offset, b": 53 ModelTwice"),
+        ModelRefusal::Memory => Err(Memory),
+    }
+}
+
 /// A number behind a text.
 fn numbered(alloc: Global, text: &[u8], number: u32) -> Result<Bytes, Memory>
     ensures { IfOk result (λ all. all ≡ text.now ++ decimal number) }
@@ -150,6 +163,15 @@ fn numbered(alloc: Global, text: &[u8], number: u32) -> Result<Bytes, Memory>
     let digits = number.to_string(alloc)?;
     let mut all = Bytes::from_slice(alloc, text)?;
     all.extend_from_slice(digits.as_bytes())?;
+    Ok(all)
+}
+
+/// A number with a line feed behind a text.
+fn line(alloc: Global, text: &[u8], number: u32) -> Result<Bytes, Memory>
+    ensures { IfOk result (λ all. all ≡ text.now ++ texts.ended (decimal number)) }
+{
+    let mut all = numbered(alloc, text, number)?;
+    all.push(b'\n')?;
     Ok(all)
 }
 
@@ -231,17 +253,29 @@ fn step(alloc: Global, refusal: &StepRefusal) -> Result<Bytes, Memory>
 fn accepted(alloc: Global, size: u32) -> Result<Bytes, Memory>
     ensures { IfOk result (λ all. all ≡ texts.accepted_text size) }
 {
-    let mut all = numbered(alloc, b"accepted ", size)?;
-    all.push(b'\n')?;
-    Ok(all)
+    line(alloc, b"accepted ", size)
 }
 
 fn none_up_to(alloc: Global, most: u32) -> Result<Bytes, Memory>
     ensures { IfOk result (λ all. all ≡ texts.none_text most) }
 {
-    let mut all = numbered(alloc, b"none up to ", most)?;
-    all.push(b'\n')?;
-    Ok(all)
+    line(alloc, b"none up to ", most)
+}
+
+fn countermodel(alloc: Global, size: u32) -> Result<Bytes, Memory>
+    ensures { IfOk result (λ all. all ≡ texts.countermodel_text size) }
+{
+    line(alloc, b"countermodel ", size)
+}
+
+fn confirm(alloc: Global, refusal: &ConfirmRefusal) -> Result<Bytes, Memory>
+    ensures { IfOk result (λ all. all ≡ texts.confirm_text refusal.now) }
+{
+    match refusal {
+        ConfirmRefusal::ModelPlace(number) => line(alloc, b"refused model 54 ModelPlace ", *number),
+        ConfirmRefusal::ModelFails(number) => line(alloc, b"refused model 55 ModelFails ", *number),
+        ConfirmRefusal::Memory => Err(Memory),
+    }
 }
 
 /// The line of a demonstration.
@@ -300,6 +334,9 @@ pub(crate) fn reply_of(alloc: Global, report: Report) -> Result<Reply, Memory>
         Report::ProblemFile(refusal) => complained(flat(alloc, &refusal)?, 2),
         Report::ProblemFormula(refusal) => complained(formula(alloc, &refusal)?, 2),
         Report::ProofFile(refusal) => complained(proof(alloc, &refusal)?, 3),
+        Report::ModelFile(file, refusal) => complained(model(alloc, file.as_slice(), &refusal)?, 3),
+        Report::Countermodel(size) => answered(countermodel(alloc, size)?, 0),
+        Report::Confirm(refusal) => answered(confirm(alloc, &refusal)?, 1),
     })
 }
 

@@ -1,4 +1,5 @@
 use coherent_form::TaskRefusal;
+use finite_model::{ConfirmRefusal, ModelRefusal};
 use include_flat::FlatRefusal;
 use isar_text::IsarRefusal;
 use logic_core::Bytes;
@@ -23,8 +24,8 @@ pub enum ProofWhy {
     Isar(IsarRefusal),
 }
 
-/// What there is to say of a problem, or of a problem and a proof. Files are told by the names by
-/// which they were asked for.
+/// What there is to say of a problem, or of a problem and a proof or a structure. Files are told by
+/// the names by which they were asked for.
 #[derive(Debug, Drop)]
 pub enum Report {
     /// The proof is accepted, with so many rule applications.
@@ -50,6 +51,13 @@ pub enum Report {
     ProblemFile(FlatRefusal),
     /// A formula of the problem is refused.
     ProblemFormula(TaskRefusal),
-    /// The proof's file is refused, for another reason than a fetch that failed.
+    /// The proof's file is refused, for another reason than a fetch that failed, or the model's file
+    /// has too many bytes.
     ProofFile(ProofRefusal),
+    /// The bytes of the model's file with this name spell no structure.
+    ModelFile(Bytes, ModelRefusal),
+    /// The structure is a countermodel of the problem, with so many elements.
+    Countermodel(u32),
+    /// The structure is no countermodel of the problem.
+    Confirm(ConfirmRefusal),
 }

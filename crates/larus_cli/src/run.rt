@@ -14,6 +14,7 @@ ghost use Rattle.larus_cli.specs.Words.{Aim, Asks, command_of, edition_word};
 ghost use Rattle.larus_cli.specs.OwnFiles.{looked_at, AsksNoFile};
 ghost use Rattle.larus_cli.specs.Complete.{IsReadable, CanBeDone, NoFault};
 ghost use Rattle.larus_cli.specs.Follows.{ProblemFollows};
+ghost use Rattle.larus_cli.specs.Refuted.{ProblemRefuted};
 ghost use Rattle.larus_cli.specs.Printed.{ProblemPrinted, ProofPrinted, IsarPrinted};
 ghost use Rattle.larus_cli.specs.Sought.{SmallestPrinted, NoneTold};
 ghost use Rattle.larus_cli.specs.Outcome.{Outcome, sinks};
@@ -21,6 +22,7 @@ ghost use Rattle.larus_cli.specs.Outcome.{Outcome, sinks};
 use crate::command::{MOST_STEPS, read_words};
 use crate::decide::reply_to;
 use coherent_form::proved_task_follows;
+use finite_model::countermodels_exclude_proofs;
 use io_core::{Files, Sink};
 use logic_core::{Bytes, World};
 use std::alloc::Global;
@@ -36,6 +38,7 @@ convert vernacular PROBLEM PROOF
 convert isar PROBLEM ISARTEXT
 demo K
 convert version2 PROBLEM PROOF
+confirm PROBLEM MODEL
 ";
 
 /// The status for want of memory.
@@ -86,12 +89,12 @@ fn answer<F: Files, O: Sink, E: Sink>(
 
 /// The program: it does what the words, those after the program's name, ask for, with these files
 /// and these two sinks, and answers the status with which it ends. 0: the proof is accepted, and
-/// printed where that is asked for, or a proof is found and printed, or the problem is printed. 1:
-/// the proof is not accepted, or there is none within the bound. 2: a file or a formula of the
-/// problem is refused. 3: the proof's file is refused. 64: the words are
-/// no command. 66: a file could not be fetched. 71: want of memory. 74: the sink of the answer
-/// failed. What is said of structures holds in each structure of every family `W`, which no code
-/// can look at.
+/// printed where that is asked for, or a proof is found and printed, or the problem is printed, or
+/// the structure is a countermodel. 1: the proof is not accepted, or there is none within the bound,
+/// or the structure is no countermodel. 2: a file or a formula of the problem is refused. 3: the
+/// file of the proof or the model is refused. 64: the words are no command. 66: a file could not be
+/// fetched. 71: want of memory. 74: the sink of the answer failed. What is said of structures holds
+/// in each structure of every family `W`, which no code can look at.
 pub fn run<W: World, F: Files, O: Sink, E: Sink>(
     alloc: Global,
     words: &[Bytes],
@@ -135,6 +138,10 @@ pub fn run<W: World, F: Files, O: Sink, E: Sink>(
     ensures exported { (problem proof : Text)
         → words.now ≡ codes "export" ∷ codes "isar" ∷ problem ∷ proof ∷ [] → result ≡ 0
         → IsarPrinted (F.known files.old) problem proof (O.stream out.old) (O.stream out.new) }
+    // A countermodel that is confirmed: no body of any size is a proof of the problem's task.
+    ensures refuted { (problem model : Text)
+        → words.now ≡ codes "confirm" ∷ problem ∷ model ∷ [] → result ≡ 0
+        → ProblemRefuted (F.known files.old) problem }
     ensures outcome { Outcome words.now (F.known files.old) (F.known files.new)
         (sinks (O.stream out.old) (E.stream errs.old))
         (sinks (O.stream out.new) (E.stream errs.new)) result }
@@ -171,5 +178,6 @@ pub fn run<W: World, F: Files, O: Sink, E: Sink>(
     ensures statuses { IsAmong result (0 ∷ 1 ∷ 2 ∷ 3 ∷ 64 ∷ 66 ∷ 71 ∷ 74 ∷ []) }
 {
     proved_task_follows::<W>();
+    countermodels_exclude_proofs();
     answer(alloc, words, files, out, errs)
 }

@@ -17,9 +17,9 @@ use Rattle.vernacular_tree.specs.declared.context.Line.TheVariants.{Facts, Cases
 use Rattle.vernacular_tree.specs.declared.context.Context.{Context}
 use Rattle.vernacular_tree.specs.declared.tree.Body.{Body}
 use Rattle.vernacular_tree.specs.declared.tree.End.{End}
-use Rattle.proof_plans.specs.Runs.{Fire, Has, IsKnown, IsClosed, all_given, all_facts, root_of, end_count}
+use Rattle.proof_plans.specs.Runs.{Fire, Has, IsKnown, IsClosed, all_given, all_facts, root_of}
 use Rattle.proof_plans.specs.Plans.{first_plan}
-use Rattle.proof_plans.specs.Embeds.{branch_image, Embeds, IsDead}
+use Rattle.proof_plans.specs.Embeds.{branch_image, Embeds}
 use Rattle.text_core.proofs.Laws.{each_map, each_append, some_front, some_back}
 use Rattle.vernacular_tree.proofs.Numbers.{counted_length, counted_at}
 use Rattle.proof_plans.proofs.Flat.{LineIs, Stage, Front, EndIs, steps_flat, end_flat}

@@ -34,7 +34,7 @@ pub(crate) fn root(start: u32, bound: &[u32], variable: u32) -> Option<u32>
         }
         at = next;
     }
-    None
+    if at < start { Some(at) } else { None }
 }
 
 /// Whether a root is an element of the context or a new one.

@@ -2,7 +2,7 @@
 
 use crate::draft::{Draft, PlanGoal, PlanStep, PlanTie};
 use crate::item::{item_at, place_at};
-use crate::joining::{Joined, join};
+use crate::joining::{Joined, join, root};
 use crate::scene::{Read, Scene, base_of, goal_at, list_at};
 use crate::word::leads_to;
 use logic_core::{Atom, Form, Slot};
@@ -18,6 +18,17 @@ enum Match {
     /// They are two.
     Apart,
 }
+
+/// What there is for a goal: how many facts may be it, and whether one of them is known to stand
+/// for it.
+#[derive(Clone, Copy, Debug)]
+struct Tally {
+    ways: usize,
+    is_standing: bool,
+}
+
+/// How many ways count as much as one variable that may stand for any element.
+const WAY_WEIGHT: usize = 4;
 
 /// The variable of a slot, as far as numbers go.
 fn variable_of(base: u32, slot: Slot) -> Option<u32> {
@@ -39,9 +50,14 @@ fn match_slots(draft: &Draft, base: u32, slot: Slot, other_base: u32, other: Slo
     }
 }
 
+/// Whether two atoms have one sign and one symbol.
+fn are_alike(one: &Atom, other: &Atom) -> bool {
+    one.symbol == other.symbol && one.positive == other.positive
+}
+
 /// How a goal goes together with a fact of a list.
 fn match_atoms(draft: &Draft, goal: Read<'_>, fact: &Atom, base: u32) -> Match {
-    if goal.atom.positive != fact.positive || goal.atom.symbol != fact.symbol {
+    if !are_alike(goal.atom, fact) {
         return Match::Apart;
     }
     let slots = goal.atom.args.as_slice();
@@ -57,38 +73,19 @@ fn match_atoms(draft: &Draft, goal: Read<'_>, fact: &Atom, base: u32) -> Match {
     all
 }
 
-/// Which facts are looked for: those that are a goal, or those that may be it.
-#[derive(Clone, Copy, Debug, PartialEq, Eq)]
-enum Wanted {
-    Same,
-    Any,
-}
-
-/// How many facts of a list are wanted.
-fn count_facts(draft: &Draft, goal: Read<'_>, facts: &[Atom], base: u32, wanted: Wanted) -> usize {
-    let mut count = 0usize;
-    for fact in facts {
-        let found = match match_atoms(draft, goal, fact, base) {
-            Match::Same => true,
-            Match::Open => wanted == Wanted::Any,
-            Match::Apart => false,
-        };
-        if found {
-            count = count.saturating_add(1);
-        }
-    }
-    count
-}
-
-/// How many facts of the context are wanted.
-fn count_given(scene: &Scene<'_>, draft: &Draft, goal: Read<'_>, wanted: Wanted) -> usize {
-    let mut count = 0usize;
+/// Counts the facts of the context.
+fn see_given(scene: &Scene<'_>, draft: &Draft, goal: Read<'_>, tally: &mut Tally) {
     for line in scene.lines {
         if let Line::Facts(facts) = line {
-            count = count.saturating_add(count_facts(draft, goal, facts.as_slice(), 0, wanted));
+            for fact in facts.as_slice() {
+                match match_atoms(draft, goal, fact, 0) {
+                    Match::Same => tally.is_standing = true,
+                    Match::Open => tally.ways = tally.ways.saturating_add(1),
+                    Match::Apart => {}
+                }
+            }
         }
     }
-    count
 }
 
 /// Whether a step is known to stand in a branch or below it.
@@ -107,39 +104,46 @@ fn is_under(draft: &Draft, user: Option<u32>, node: u32) -> bool {
     false
 }
 
-/// How many facts of the cases above a goal are wanted; those that are the goal count where its user
-/// is known to stand below them.
-fn count_cases(
+/// Counts the facts of the case with which a branch begins; one that is the goal is known to stand
+/// for it where the goal's user stands in that branch or below it.
+fn see_case(
     scene: &Scene<'_>,
     draft: &Draft,
-    goal: PlanGoal,
+    user: Option<u32>,
     read: Read<'_>,
-    wanted: Wanted,
-) -> usize {
-    let mut count = 0usize;
+    node: u32,
+    tally: &mut Tally,
+) {
+    let Some(kept) = item_at(draft.nodes(), node as usize) else {
+        return;
+    };
+    let Some(facts) = list_at(scene, kept.of) else {
+        return;
+    };
+    for fact in facts.as_slice() {
+        let found = match_atoms(draft, read, fact, base_of(kept.of));
+        if found == Match::Same && is_under(draft, user, node) {
+            tally.is_standing = true;
+        }
+        if found != Match::Apart {
+            tally.ways = tally.ways.saturating_add(1);
+        }
+    }
+}
+
+/// Counts the facts of the cases above a goal.
+fn see_cases(scene: &Scene<'_>, draft: &Draft, goal: PlanGoal, read: Read<'_>, tally: &mut Tally) {
     let mut at = goal.node;
     for _round in 0..draft.nodes().len() {
         if at == 0 {
-            return count;
+            return;
         }
+        see_case(scene, draft, goal.user, read, at, tally);
         let Some(node) = item_at(draft.nodes(), at as usize) else {
-            return count;
+            return;
         };
-        if wanted == Wanted::Any || is_under(draft, goal.user, at) {
-            if let Some(facts) = list_at(scene, node.of) {
-                let base = base_of(node.of);
-                count = count.saturating_add(count_facts(
-                    draft,
-                    read,
-                    facts.as_slice(),
-                    base,
-                    wanted,
-                ));
-            }
-        }
         at = node.parent;
     }
-    count
 }
 
 /// Whether a step is known to be seen from the branch of a goal, before its user.
@@ -174,76 +178,107 @@ fn facts_of(form: &Form) -> &[Atom] {
     }
 }
 
-/// How many facts of steps are wanted; those that are the goal count where their step is known to
-/// stand before it.
-fn count_steps(
-    scene: &Scene<'_>,
-    draft: &Draft,
-    goal: PlanGoal,
-    read: Read<'_>,
-    wanted: Wanted,
-) -> usize {
-    let mut count = 0usize;
+/// Counts the facts of steps; one that is the goal is known to stand for it where its step is known
+/// to stand before it.
+fn see_steps(scene: &Scene<'_>, draft: &Draft, goal: PlanGoal, read: Read<'_>, tally: &mut Tally) {
     for number in 0..draft.steps().len() {
         let PlanStep { form, base } = draft.steps()[number];
         let Some(form) = place_at(scene.forms, form as usize) else {
-            return count;
+            return;
         };
-        if wanted == Wanted::Any || is_before(draft, goal, number) {
-            let facts = facts_of(form);
-            count = count.saturating_add(count_facts(draft, read, facts, base, wanted));
-        }
-    }
-    count
-}
-
-/// How many facts of forms have the symbol of a goal.
-fn count_forms(scene: &Scene<'_>, read: Read<'_>) -> usize {
-    let mut count = 0usize;
-    for form in scene.forms {
         for fact in facts_of(form) {
-            if fact.positive == read.atom.positive && fact.symbol == read.atom.symbol {
-                count = count.saturating_add(1);
+            let found = match_atoms(draft, read, fact, base);
+            if found == Match::Same && is_before(draft, goal, number) {
+                tally.is_standing = true;
+            }
+            if found != Match::Apart {
+                tally.ways = tally.ways.saturating_add(1);
             }
         }
     }
-    count
+}
+
+/// Counts the facts of forms that have the symbol of a goal.
+fn see_forms(scene: &Scene<'_>, read: Read<'_>, tally: &mut Tally) {
+    for form in scene.forms {
+        for fact in facts_of(form) {
+            if are_alike(fact, read.atom) {
+                tally.ways = tally.ways.saturating_add(1);
+            }
+        }
+    }
+}
+
+/// What there is for a goal without new steps.
+fn tally_of(scene: &Scene<'_>, draft: &Draft, goal: PlanGoal, read: Read<'_>) -> Tally {
+    let mut tally = Tally {
+        ways: 0,
+        is_standing: false,
+    };
+    see_given(scene, draft, read, &mut tally);
+    if !tally.is_standing {
+        see_cases(scene, draft, goal, read, &mut tally);
+    }
+    if !tally.is_standing {
+        see_steps(scene, draft, goal, read, &mut tally);
+    }
+    tally
 }
 
 /// Whether a goal is known to stand.
 pub(crate) fn is_standing(scene: &Scene<'_>, draft: &Draft, goal: PlanGoal) -> bool {
-    let Some(read) = goal_at(scene, goal) else {
-        return false;
-    };
-    count_given(scene, draft, read, Wanted::Same) > 0
-        || count_cases(scene, draft, goal, read, Wanted::Same) > 0
-        || count_steps(scene, draft, goal, read, Wanted::Same) > 0
+    match goal_at(scene, goal) {
+        Some(read) => tally_of(scene, draft, goal, read).is_standing,
+        None => false,
+    }
 }
 
-/// How many ways a goal has.
-fn count_ways(scene: &Scene<'_>, draft: &Draft, goal: PlanGoal, is_full: bool) -> usize {
+/// How many slots of an atom may stand for any element.
+fn count_free(draft: &Draft, read: Read<'_>) -> usize {
+    let mut count = 0usize;
+    for slot in read.atom.args.as_slice() {
+        if let Some(variable) = variable_of(read.base, *slot)
+            && let Some(found) = root(draft.start(), draft.bound(), variable)
+            && found >= draft.start()
+            && item_at(draft.fixed(), (found - draft.start()) as usize) == Some(false)
+        {
+            count = count.saturating_add(1);
+        }
+    }
+    count
+}
+
+/// How much a goal leaves open: 0 for one that is known to stand, or has no way; ways count more
+/// than variables.
+fn weight_of(scene: &Scene<'_>, draft: &Draft, goal: PlanGoal, is_full: bool) -> usize {
     let Some(read) = goal_at(scene, goal) else {
         return 0;
     };
-    let new = if is_full { 0 } else { count_forms(scene, read) };
-    count_given(scene, draft, read, Wanted::Any)
-        .saturating_add(count_cases(scene, draft, goal, read, Wanted::Any))
-        .saturating_add(count_steps(scene, draft, goal, read, Wanted::Any))
-        .saturating_add(new)
+    let mut tally = tally_of(scene, draft, goal, read);
+    if tally.is_standing {
+        return 0;
+    }
+    if !is_full {
+        see_forms(scene, read, &mut tally);
+    }
+    if tally.ways == 0 {
+        return 0;
+    }
+    let weight = tally.ways.saturating_mul(WAY_WEIGHT);
+    weight.saturating_add(count_free(draft, read))
 }
 
-/// The place of the goal that has the fewest ways; one that is known to stand comes first.
+/// The place of the goal that leaves least open, the newest one of several.
 pub(crate) fn next_goal(scene: &Scene<'_>, draft: &Draft, is_full: bool) -> usize {
     let mut best = 0usize;
-    let mut fewest = usize::MAX;
+    let mut least = usize::MAX;
     for at in (0..draft.goals().len()).rev() {
-        let goal = draft.goals()[at];
-        if is_standing(scene, draft, goal) {
+        let weight = weight_of(scene, draft, draft.goals()[at], is_full);
+        if weight == 0 {
             return at;
         }
-        let ways = count_ways(scene, draft, goal, is_full);
-        if ways < fewest {
-            fewest = ways;
+        if weight < least {
+            least = weight;
             best = at;
         }
     }

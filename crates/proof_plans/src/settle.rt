@@ -97,5 +97,8 @@ pub(crate) fn is_impossible(draft: &Draft, places: &mut Vec<Place>) -> bool
             Settled::Dead => return true,
         }
     }
-    false
+    matches!(
+        settle_once(draft.nodes(), draft.ties(), places),
+        Settled::Dead
+    )
 }

@@ -53,9 +53,33 @@ fn push_step(
     if added { Some(()) } else { None }
 }
 
-/// The step whose first variable this is.
-fn step_from(planner: &Planner, base: u32) -> Option<usize> {
-    planner.steps().iter().position(|step| step.base == base)
+/// Whether the one branch of a plan leads to the other one.
+fn leads_to(planner: &Planner, upper: u32, lower: u32) -> bool {
+    let mut at = lower;
+    for _round in 0..planner.nodes().len() {
+        if at == upper {
+            return true;
+        }
+        let Some(node) = planner.nodes().get(at as usize) else {
+            return false;
+        };
+        at = node.parent;
+    }
+    false
+}
+
+/// The step of a form whose first variable this is, as seen from a branch. Steps without variables
+/// may have one first variable.
+fn step_from(planner: &Planner, form: u32, base: u32, branch: u32) -> Option<usize> {
+    let count = planner.steps().len();
+    for number in 0..count {
+        let step: PlanStep = planner.steps().get(number).copied()?;
+        let place: Place = planner.places().get(number).copied()?;
+        if step.form == form && step.base == base && leads_to(planner, place.level, branch) {
+            return Some(number);
+        }
+    }
+    None
 }
 
 /// The line that a branch was split by, and which of its cases begins it.
@@ -63,8 +87,8 @@ fn split_of(planner: &Planner, node: Node) -> Option<(OutlineLine, u32)> {
     match node.of {
         ListOf::Line { .. } => None,
         ListOf::Case { line, number } => Some((OutlineLine::Given(line), number)),
-        ListOf::Disjunct { base, number, .. } => {
-            let step = step_from(planner, base)?;
+        ListOf::Disjunct { form, base, number } => {
+            let step = step_from(planner, form, base, node.parent)?;
             Some((OutlineLine::Step(position(planner.places(), step)?), number))
         }
     }

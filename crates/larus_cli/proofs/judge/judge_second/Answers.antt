@@ -1,4 +1,5 @@
-use Rattle.std.proofs.Common.{◌≡◌, Err, rules}
+use Rattle.std.proofs.Common.{◌≡◌, Err, refl, rules}
+use Rattle.larus_cli.specs.Words.{to_judge}
 use Rattle.larus_cli.specs.Read.{ReadsBytes}
 use Rattle.larus_cli.proofs.Saying.{holds_before}
 use Rattle.larus_cli.proofs.judge.judge_second.Goals as goal
@@ -6,7 +7,8 @@ use Rattle.larus_cli.proofs.judge.judge_second.Goals as goal
 pub returns-in_err-bytes-clause-decides : goal.returns-in_err-bytes-clause-decides
 returns-in_err-bytes-clause-decides g c words before problem grows are reads =
     let same : c.from_residual.result ≡ Err c.in_err-bytes.field-0.0 = search rules in
-    rw same (c.in_err-bytes.ensures.halts words before problem c.args.format c.args.task.now grows (c.args.wanted, are) reads)
+    rw same (c.in_err-bytes.ensures.halts words before problem c.args.task.now grows
+    (to_judge c.args.wanted c.args.format c.args.name.now, are, refl) reads)
 
 pub returns-in_err-script-clause-decides : goal.returns-in_err-script-clause-decides
 returns-in_err-script-clause-decides g c words before problem grows are reads =

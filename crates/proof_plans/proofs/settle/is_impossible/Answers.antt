@@ -31,3 +31,9 @@ loop-round-preserved c = λ task lent n h.
     (c.in-Changed.ensures task lent h.values h.fires h.indices h.plan.ties
     (read_ties task lent c.args.draft.now.nodes c.nodes.result.now c.args.draft.now.ties c.ties.result.now h.plan.ties c.nodes.ensures c.ties.ensures h.keeps.ties_are) h.embeds.ties
     (subst (λ (ns : List Node). PlacesHold task lent ns h.values h.fires h.indices c.loop-round.places.items) (sym c.nodes.ensures) (c.loop-round.invariant task lent n h)))
+
+pub returns-in-Dead-matches : goal.returns-in-Dead-matches
+returns-in-Dead-matches c = λ task lent n h.
+    c.in-Dead-matches.ensures task lent h.values h.fires h.indices h.plan.ties
+    (read_ties task lent c.args.draft.now.nodes c.nodes-2.result.now c.args.draft.now.ties c.ties-2.result.now h.plan.ties c.nodes-2.ensures c.ties-2.ensures h.keeps.ties_are) h.embeds.ties
+    (subst (λ (ns : List Node). PlacesHold task lent ns h.values h.fires h.indices c.loop-round.places.items) (sym c.nodes-2.ensures) (c.loop-round.invariant task lent n h))

@@ -1,0 +1,5 @@
+use Rattle.clause_solver.specs.Stored.{kept_in, Follows}
+use Rattle.clause_solver.proofs.analysis.derive.Given as goal
+
+abbrev pub invariant-loop-at : goal.invariant-loop-at
+invariant-loop-at l = Follows (kept_in l.store) l.search.working.literals.items

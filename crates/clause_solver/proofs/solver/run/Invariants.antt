@@ -1,0 +1,5 @@
+use Rattle.clause_solver.specs.Stored.{kept_in, StaySuited}
+use Rattle.clause_solver.proofs.solver.run.Given as goal
+
+abbrev pub invariant-loop : goal.invariant-loop
+invariant-loop l = StaySuited (kept_in l.initial.store) (kept_in l.store)
