@@ -28,11 +28,12 @@ use Rattle.finite_model.specs.Countermodels.{IsCountermodel, IsConfirmFault}
 use Rattle.finite_model.specs.declared.refusal.ConfirmRefusal.{ConfirmRefusal}
 use Rattle.finite_model.proofs.Laws.{countermodel_not_refused}
 use Rattle.larus_cli.specs.declared.command.Format.{Format}
-use Rattle.larus_cli.specs.Words.{Aim, to_print, to_prove, to_judge, to_confirm, second_in, Asks}
+use Rattle.larus_cli.specs.Words.{Aim, to_print, to_prove, to_judge, to_refute, to_confirm, second_in, Asks}
 use Rattle.larus_cli.specs.OwnFiles.{looked_at}
 use Rattle.larus_cli.specs.Read.{ReadsProblem, ReadsTask, ReadsBytes, Spells, SpellsNone, ReadsScript, ReadsProof, ReadsModel}
 use Rattle.larus_cli.specs.Smallest.{HasNoProof}
-use Rattle.larus_cli.specs.Answers.{Answer, done, step_refused, none_up_to, model_fails, problem_refused, formula_refused}
+use Rattle.larus_cli.specs.LeastModel.{HasNoModel}
+use Rattle.larus_cli.specs.Answers.{Answer, done, step_refused, none_up_to, none_sized, model_fails, problem_refused, formula_refused}
 use Rattle.larus_cli.specs.Answers.{too_long, proof_refused, model_refused, usage, fault}
 use Rattle.larus_cli.specs.Outcome.{Sinks, BreaksAt, Outcome, answered, broken, out_of_memory}
 use Rattle.larus_cli.specs.Complete.{IsReadable, CanBeDone, NoFault}
@@ -45,6 +46,7 @@ readable_of : (files : Known) (problem : Text) (aim : Aim) → CanBeDone files p
 readable_of files problem to_print can = can
 readable_of files problem (to_prove most) (task, reads, body) = (task, reads)
 readable_of files problem (to_judge wanted format second) (task, script, body, reads) = (task, script, reads.reads)
+readable_of files problem (to_refute size) (task, reads, model) = (task, reads)
 readable_of files problem (to_confirm second) (formulas, task, m, reads, counter) = (formulas, task, m, reads)
 
 -- the formulas of a problem that can be read
@@ -52,6 +54,7 @@ flat_of : (files : Known) (problem : Text) (aim : Aim) → IsReadable files prob
 flat_of files problem to_print can = can
 flat_of files problem (to_prove most) (task, reads) = (reads.formulas, reads.reads)
 flat_of files problem (to_judge wanted format second) (task, script, reads) = (reads.reads.reads.formulas, reads.reads.reads.reads)
+flat_of files problem (to_refute size) (task, reads) = (reads.formulas, reads.reads)
 flat_of files problem (to_confirm second) (formulas, task, m, reads) = (formulas, reads.reads)
 
 -- its task, where that is wanted
@@ -59,6 +62,7 @@ task_of : (files : Known) (problem : Text) (aim : Aim) → aim ≢ to_print → 
 task_of files problem to_print some can = absurd (some refl)
 task_of files problem (to_prove most) some can = can
 task_of files problem (to_judge wanted format second) some (task, script, reads) = (task, reads.reads.reads)
+task_of files problem (to_refute size) some can = can
 task_of files problem (to_confirm second) some (formulas, task, m, reads) = (task, (model_read reads).reads)
 
 -- the bytes of the second file, where one is asked for
@@ -68,6 +72,7 @@ second_read files problem second to_print is can = absurd cc
 second_read files problem second (to_prove most) is can = absurd cc
 second_read files problem second (to_judge wanted format name) is (task, script, reads) =
     subst (λ n. (task : CitedTask) × (bytes : Text) × ReadsBytes files problem n task bytes) (value_same is) (task, reads.bytes, reads.reads)
+second_read files problem second (to_refute size) is can = absurd cc
 second_read files problem second (to_confirm name) is (formulas, task, m, reads) =
     subst (λ n. (task : CitedTask) × (bytes : Text) × ReadsBytes files problem n task bytes) (value_same is) (task, reads.bytes, model_read reads)
 
@@ -124,6 +129,7 @@ module _ (files later : Known) (held : Held) (holding : files.held ≡ Some held
       let task = task_of files problem aim (λ printed. names.2 (one_aim words names.1 asks ∙ printed)) can in
       let one = formulas_same problem formulas task.1.formulas (subst (λ p. ReadsProblem files p formulas) same reads) task.1.reads in
       absurd (task_not_refused task.1.formulas task.0 refusal task.1.has (subst (λ fs. IsTaskFault fs refusal) one is))
+  complete_row (none_sized other size formulas task also reads has is) problem aim asks can some = inr refl
   complete_row (model_fails other second formulas task m refusal also reads is) problem aim asks can some = inr refl
   complete_row {words = words} (too_long other second task names reads long) problem aim asks can some =
       let can' = subst (IsReadable files problem) (one_aim words asks names.1) can in
@@ -180,6 +186,17 @@ module _ (files later : Known) (held : Held) (holding : files.held ≡ Some held
       let read = subst (λ p. ReadsTask files p task) (one_problem words also asks) reads in
       let one = task_same problem task sought.0 read sought.1 in
       subst (λ t. HasNoProof t most) one none sought.2.0 sought.2.1 sought.2.2
+  one_never {words = words} (none_sized other size formulas task also reads has none) problem aim asks can e =
+      let sought = subst (CanBeDone files problem) (one_aim words asks also) can in
+      let read : ReadsTask files problem task = record {
+        formulas = formulas;
+        reads = subst (λ p. ReadsProblem files p formulas) (one_problem words also asks) reads;
+        has = has;
+      } in
+      let flats : formulas ≡ sought.1.formulas = formulas_same problem formulas sought.1.formulas read.reads sought.1.reads in
+      let tasks : task ≡ sought.0 = task_same problem task sought.0 read sought.1 in
+      subst (λ (k : List Fof × CitedTask). HasNoModel k.0 k.1 size) (λ i. (flats i, tasks i)) none
+      sought.2.0 sought.2.1 sought.2.2 sought.2.3
   one_never {words = words} (model_fails other second formulas task m refusal also reads is) problem aim asks can e =
       let sought = subst (CanBeDone files problem) (one_aim words asks also) can in
       let read = subst (λ p. ReadsModel files p second formulas task m) (one_problem words also asks) reads in

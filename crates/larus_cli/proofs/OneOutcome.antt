@@ -30,41 +30,52 @@ use Rattle.proof_checker.specs.Accepted.{IsAcceptedAs}
 use Rattle.proof_text.specs.StandsFor.{AreCitedOnce}
 use Rattle.proof_checker.specs.Faults.{IsFault}
 use Rattle.proof_checker.proofs.Laws.{accepted_one, fault_one, accepted_none}
+use Rattle.model_text.specs.Canonical.{model_text as structure_text}
 use Rattle.model_text.specs.declared.refusal.ModelRefusal.{ModelRefusal}
-use Rattle.model_text.specs.Structures.{Finite}
+use Rattle.model_text.specs.Structures.{Finite, IsSound}
 use Rattle.model_text.specs.Texts.{IsModelOf, ModelFault}
 use Rattle.model_text.proofs.Laws.{models_same, refusals_same, model_not_refused}
 use Rattle.finite_model.specs.declared.refusal.ConfirmRefusal.{ConfirmRefusal}
 use Rattle.finite_model.specs.Countermodels.{IsCountermodel, IsConfirmFault}
 use Rattle.finite_model.proofs.Laws.{one_confirm_refusal, countermodel_not_refused}
 use Rattle.larus_cli.specs.declared.command.Command.{Command}
-use Rattle.larus_cli.specs.declared.command.Command.TheVariants.{Check, Prove, ExportIsar, ExportEnglish, ConvertProblem, ConvertVernacular, ConvertIsar, ConvertVersion2, Demo, Confirm}
+use Rattle.larus_cli.specs.declared.command.Command.TheVariants.{Check, Prove, ExportIsar, ExportEnglish, ConvertProblem, ConvertVernacular, ConvertIsar, ConvertVersion2, Demo, Refute, Confirm}
 use Rattle.larus_cli.specs.declared.command.Format.{Format}
 use Rattle.larus_cli.specs.declared.command.Wanted.{Wanted}
 use Rattle.larus_cli.specs.declared.report.ProofWhy.{ProofWhy}
-use Rattle.larus_cli.specs.Words.{Aim, to_print, to_prove, to_judge, to_confirm, second_in, command_of, Asks, NamesBoth}
+use Rattle.larus_cli.specs.Words.{Aim, to_print, to_prove, to_judge, to_refute, to_confirm, second_in, command_of, Asks, NamesBoth}
 use Rattle.larus_cli.specs.OwnFiles.{looked_in, looked_at}
 use Rattle.larus_cli.specs.Texts.{usage_text, too_long_text, flat_text, formula_text, proof_text, model_text, step_text, none_text, countermodel_text, confirm_text}
-use Rattle.larus_cli.specs.Read.{ReadsTask, ReadsBytes, Spells, SpellsNone, ReadsScript, ReadsModel}
+use Rattle.larus_cli.specs.Read.{ReadsProblem, ReadsTask, ReadsBytes, Spells, SpellsNone, ReadsScript, ReadsModel}
 use Rattle.larus_cli.specs.Smallest.{IsSmallest, HasNoProof}
-use Rattle.larus_cli.specs.Done.{Done, told, judged, proved, converted, confirmed}
-use Rattle.larus_cli.specs.Answers.{Answer, done, step_refused, none_up_to, model_fails, problem_refused, formula_refused}
+use Rattle.larus_cli.specs.LeastModel.{IsLeastModel, HasNoModel}
+use Rattle.larus_cli.specs.Done.{Done, told, judged, proved, converted, refuted, confirmed}
+use Rattle.larus_cli.specs.Answers.{Answer, done, step_refused, none_up_to, none_sized, model_fails, problem_refused, formula_refused}
 use Rattle.larus_cli.specs.Answers.{too_long, proof_refused, model_refused, usage, fault}
-use Rattle.larus_cli.specs.Outcome.{Sinks, PutsTo, Outcome, answered, broken, out_of_memory, IsSettled, Alike, one_text, two_smallest, EndAlike}
+use Rattle.larus_cli.specs.Outcome.{Sinks, PutsTo, Outcome, answered, broken, out_of_memory, IsSettled, Alike, one_text, two_smallest, two_least, EndAlike}
 use Rattle.larus_cli.proofs.Outcomes.{asks_some}
 use Rattle.larus_cli.proofs.Saying.{model_read}
 use Rattle.larus_cli.proofs.Spelling.{spelled_same, reasons_same, spelled_never}
 
--- what is said: one text, or that of some smallest proof of a task
+-- what is said: one text, or that of some smallest proof of a task, or of some least countermodel
 data Said : Type 0 where
   exactly : Text → Said
   some_smallest : CitedTask → Said
+  some_least : List Fof → CitedTask → Said
 
 -- the text is what is said
 abbrev Means : List Text → Said → Text → Type 0
 Means words (exactly said) text = text ≡ said
 Means words (some_smallest task) text = (problem : Text) × (most : ℕ) × (body : Body) × Asks words problem (to_prove most) ×
     IsSmallest task body × (text ≡ written_text (script_of First task body))
+Means words (some_least formulas task) text = (problem : Text) × (size : ℕ) × (m : Finite) × Asks words problem (to_refute size) ×
+    IsLeastModel formulas task size m × (text ≡ structure_text m)
+
+-- the bound within which a countermodel is sought is one
+one_size : (words : List Text) (problem other : Text) (size bound : ℕ) → Asks words problem (to_refute size) → Asks words other (to_refute bound) →
+    bound ≡ size
+one_size words problem other size bound asks also =
+    let aims : to_refute bound ≡ to_refute size = ap (λ (n : Text × Aim). n.1) (value_same (sym also ∙ asks)) in cc
 
 -- texts that are what is said are alike
 alike_of : (words : List Text) (said : Said) (text another : Text) → Means words said text → Means words said another → Alike words text another
@@ -72,6 +83,10 @@ alike_of words (exactly said) text another e f = subst (Alike words text) (e ∙
 alike_of words (some_smallest task) text another (problem, most, body, are, least, e) (_, _, other, _, also, f) =
     subst (λ t. Alike words t another) (sym e) (subst (Alike words (written_text (script_of First task body))) (sym f)
     (two_smallest problem most task body other are least also))
+alike_of words (some_least formulas task) text another (problem, size, m, are, least, e) (file, bound, n, also, same, f) =
+    let sized : IsLeastModel formulas task size n = subst (λ k. IsLeastModel formulas task k n) (one_size words problem file size bound are also) same in
+    subst (λ t. Alike words t another) (sym e) (subst (Alike words (structure_text m)) (sym f)
+    (two_least problem size formulas task m n are least sized))
 
 -- where an answer goes, what is said, and its status
 record End : Type 0 where
@@ -90,6 +105,10 @@ on_errors text status = record { output = false; said = exactly text; status = s
 -- the end where a proof is found
 abbrev found_end : CitedTask → End
 found_end task = record { output = true; said = some_smallest task; status = 0 }
+
+-- the end where a countermodel is found
+abbrev refuted_end : List Fof → CitedTask → End
+refuted_end formulas task = record { output = true; said = some_least formulas task; status = 0 }
 
 module _ (wanted : Wanted) where
   -- by the script that the bytes of the second file spell
@@ -183,6 +202,18 @@ module _ (held : Held) where
   one_by_search most task a b (inr (none, e)) (inl (body, is, few, f)) = absurd (none body is.proves few)
   one_by_search most task a b (inr (none, e)) (inr (also, f)) = e ∙ sym f
 
+  -- by the search for a countermodel
+  abbrev OnRefuting : ℕ → List Fof → End → CitedTask → Type 0
+  OnRefuting size flat end task = ((m : Finite) × IsLeastModel flat task size m × IsSound m × (end ≡ refuted_end flat task)) ⊎
+      (HasNoModel flat task size × (end ≡ on_output (none_text size) 1))
+
+  -- two ends by that search are one
+  one_by_refuting : (size : ℕ) (flat : List Fof) (task : CitedTask) (a b : End) → OnRefuting size flat a task → OnRefuting size flat b task → a ≡ b
+  one_by_refuting size flat task a b (inl (m, is, sound, e)) (inl (n, also, sound', f)) = e ∙ sym f
+  one_by_refuting size flat task a b (inl (m, is, sound, e)) (inr (none, f)) = absurd (none m sound is.within is.counter)
+  one_by_refuting size flat task a b (inr (none, e)) (inl (m, is, sound, f)) = absurd (none m sound is.within is.counter)
+  one_by_refuting size flat task a b (inr (none, e)) (inr (also, f)) = e ∙ sym f
+
   -- by the task of the problem
   abbrev OnTask : (CitedTask → Type 0) → End → List Fof → Type 0
   OnTask P end flat = ((refusal : TaskRefusal) × IsTaskFault flat refusal × (end ≡ on_errors (formula_text refusal) 2)) ⊎
@@ -203,6 +234,7 @@ module _ (held : Held) where
   OnFormulas to_print end flat = end ≡ on_output (problem_text flat) 0
   OnFormulas (to_prove most) end flat = OnTask (OnSearch most end) end flat
   OnFormulas (to_judge wanted format name) end flat = OnTask (λ task. OnSecond (OnBytes wanted format name task end) name end) end flat
+  OnFormulas (to_refute size) end flat = OnTask (OnRefuting size flat end) end flat
   OnFormulas (to_confirm name) end flat = OnTask (λ task. OnSecond (OnModel task.tables.constants flat name end) name end) end flat
 
   -- two ends by the formulas of the problem are one
@@ -214,6 +246,8 @@ module _ (held : Held) where
       one_by_task (λ task. OnSecond (OnBytes wanted format name task a) name a) (λ task. OnSecond (OnBytes wanted format name task b) name b)
       flat a b (λ task once. one_by_second (OnBytes wanted format name task a) (OnBytes wanted format name task b) name a b
       (λ bytes. one_by_bytes wanted format name task bytes a b once)) e f
+  one_by_formulas (to_refute size) flat a b e f =
+      one_by_task (OnRefuting size flat a) (OnRefuting size flat b) flat a b (λ task once. one_by_refuting size flat task a b) e f
   one_by_formulas (to_confirm name) flat a b e f =
       one_by_task (λ task. OnSecond (OnModel task.tables.constants flat name a) name a)
       (λ task. OnSecond (OnModel task.tables.constants flat name b) name b) flat a b
@@ -301,6 +335,7 @@ module _ (held : Held) where
         let same : other ≡ name = value_same is in
         let asks' = subst (λ n. Asks words problem (to_judge wanted format n)) same asks in
         by_task problem format name task end (wanted, asks') read (inl (long, e))
+    by_long problem name task (to_refute size) end asks is read long e = absurd cc
     by_long problem name task (to_confirm other) end asks is read long e =
         let same : other ≡ name = value_same is in
         let asks' = subst (λ n. Asks words problem (to_confirm n)) same asks in
@@ -316,6 +351,7 @@ module _ (held : Held) where
     by_fault to_print end formulas refusal some is e = absurd (some refl)
     by_fault (to_prove most) end formulas refusal some is e = inl (refusal, is, e)
     by_fault (to_judge wanted format name) end formulas refusal some is e = inl (refusal, is, e)
+    by_fault (to_refute size) end formulas refusal some is e = inl (refusal, is, e)
     by_fault (to_confirm name) end formulas refusal some is e = inl (refusal, is, e)
 
     -- an end by the search in the task of the problem
@@ -328,6 +364,12 @@ module _ (held : Held) where
           asks,
           inr (read.formulas, here (λ h. IsFlat h problem read.formulas) read.reads, inr (task, read.has, is)),
         )
+
+    -- an end by the search for a countermodel of the problem
+    by_refuting : (problem : Text) (size : ℕ) (formulas : List Fof) (task : CitedTask) (end : End) → Asks words problem (to_refute size) →
+        ReadsProblem files problem formulas → IsTaskOf formulas task → OnRefuting held size formulas end task → OnWords words end
+    by_refuting problem size formulas task end asks reads has is =
+        inr (problem, to_refute size, asks, inr (formulas, here (λ h. IsFlat h problem formulas) reads, inr (task, has, is)))
 
     -- what is done is an end by the words, on the output with status 0
     by_done : (text : Text) → Done words files text → Ends true text 0
@@ -346,6 +388,11 @@ module _ (held : Held) where
       inr (problem, to_print, asks, inr (formulas, here (λ h. IsFlat h problem formulas) reads, ap (λ t. on_output t 0) is)),
       refl,
     )
+    by_done text (refuted problem _ size formulas task m asks reads has least is back) = (
+      some_least formulas task,
+      by_refuting problem size formulas task _ asks reads has (inl (m, least, back.2.sound, refl)),
+      (problem, size, m, asks, least, is),
+    )
     by_done text (confirmed problem name _ formulas task m asks read counter is) = (
       exactly text,
       by_structure problem name formulas task m _ asks read (inl (counter, ap (λ t. on_output t 0) is)),
@@ -359,6 +406,8 @@ module _ (held : Held) where
         (exactly (step_text refusal), by_script problem format second task script _ names reads (inr (refusal, is, refl)), refl)
     by_row (none_up_to problem most task asks read is) some =
         (exactly (none_text most), by_search problem most task _ asks read (inr (is, refl)), refl)
+    by_row (none_sized problem size formulas task asks reads has is) some =
+        (exactly (none_text size), by_refuting problem size formulas task _ asks reads has (inr (is, refl)), refl)
     by_row (model_fails problem name formulas task m refusal asks read is) some =
         (exactly (confirm_text refusal), by_structure problem name formulas task m _ asks read (inr (refusal, is, refl)), refl)
     by_row (problem_refused problem file why names is inner) some = (
@@ -411,6 +460,7 @@ looked_same (Some ConvertProblem) files other held told also = (held, told, also
 looked_same (Some ConvertVernacular) files other held told also = (held, told, also)
 looked_same (Some ConvertIsar) files other held told also = (held, told, also)
 looked_same (Some ConvertVersion2) files other held told also = (held, told, also)
+looked_same (Some (Refute size)) files other held told also = (held, told, also)
 looked_same (Some Confirm) files other held told also = (held, told, also)
 looked_same None files other held told also = (held, told, also)
 

@@ -18,32 +18,35 @@ use Rattle.include_flat.specs.Flattened.{IsFlat}
 use Rattle.include_flat.proofs.Laws.{flat_allowed}
 use Rattle.coherent_form.specs.Tasks.{CitedTask, IsTaskOf, proof_task}
 use Rattle.model_text.specs.Structures.{Finite, IsSound}
+use Rattle.model_text.specs.Texts.{IsModelOf}
 use Rattle.finite_model.specs.Countermodels.{IsCountermodel}
+use Rattle.model_search.specs.declared.find.TheConstants.{MOST_SOUGHT}
 use Rattle.proof_text.specs.declared.part.Edition.{Edition}
 use Rattle.proof_text.specs.declared.part.Edition.TheVariants.{First, Second}
 use Rattle.larus_cli.specs.declared.command.Command.{Command}
-use Rattle.larus_cli.specs.declared.command.Command.TheVariants.{Check, Prove, ExportIsar, ExportEnglish, ConvertProblem, ConvertVernacular, ConvertIsar, ConvertVersion2, Demo, Confirm}
+use Rattle.larus_cli.specs.declared.command.Command.TheVariants.{Check, Prove, ExportIsar, ExportEnglish, ConvertProblem, ConvertVernacular, ConvertIsar, ConvertVersion2, Demo, Refute, Confirm}
 use Rattle.larus_cli.specs.declared.command.Wanted.{Wanted}
 use Rattle.larus_cli.specs.declared.command.Wanted.TheVariants.{Size, Script}
 use Rattle.larus_cli.specs.declared.command.Wanted.TheVariants as wants
 use Rattle.larus_cli.specs.declared.command.Format.{Format}
 use Rattle.larus_cli.specs.declared.command.Format.TheVariants.{Vernacular, Isar}
 use Rattle.larus_cli.specs.declared.command.TheConstants.{MOST_STEPS}
-use Rattle.larus_cli.specs.Words.{Aim, to_print, to_prove, to_judge, to_confirm, command_of, Asks}
-use Rattle.larus_cli.specs.Words.{check_words, prove_words, export_words, isar_words, convert_words, rewrite_words, confirm_words}
+use Rattle.larus_cli.specs.Words.{Aim, to_print, to_prove, to_judge, to_refute, to_confirm, command_of, Asks}
+use Rattle.larus_cli.specs.Words.{check_words, prove_words, export_words, isar_words, convert_words, rewrite_words, refute_words, confirm_words}
 use Rattle.larus_cli.specs.OwnFiles.{looked_in, looked_at, FilesUnasked, AsksNoFile}
 use Rattle.larus_cli.specs.Texts.{none_text}
-use Rattle.larus_cli.specs.Read.{ReadsTask, ReadsProof}
+use Rattle.larus_cli.specs.Read.{ReadsProblem, ReadsTask, ReadsProof}
 use Rattle.larus_cli.specs.Smallest.{HasNoProof}
-use Rattle.larus_cli.specs.Sought.{SmallestPrinted, NoneTold}
-use Rattle.larus_cli.specs.Done.{Done, told, judged, proved, converted, confirmed, KeepsProof}
+use Rattle.larus_cli.specs.LeastModel.{HasNoModel}
+use Rattle.larus_cli.specs.Sought.{SmallestPrinted, NoneTold, LeastModelPrinted, NoModelTold}
+use Rattle.larus_cli.specs.Done.{Done, told, judged, proved, converted, refuted, confirmed, KeepsProof}
 use Rattle.larus_cli.specs.Follows.{ProblemFollows}
 use Rattle.larus_cli.specs.Refuted.{HasNoBody, ProblemRefuted}
 use Rattle.larus_cli.specs.Printed.{ReadsBack, ReadsBackAs, ProblemPrinted, ProofPrinted, IsarPrinted}
-use Rattle.larus_cli.specs.Answers.{IsAsked, of_problem, as_second, Answer, done, step_refused, none_up_to, model_fails, problem_refused, formula_refused}
+use Rattle.larus_cli.specs.Answers.{IsAsked, of_problem, as_second, Answer, done, step_refused, none_up_to, none_sized, model_fails, problem_refused, formula_refused}
 use Rattle.larus_cli.specs.Answers.{too_long, proof_refused, model_refused, usage, fault}
 use Rattle.larus_cli.specs.Outcome.{Sinks, sinks, PutsTo, IsReply, Outcome, answered, broken, out_of_memory}
-use Rattle.larus_cli.proofs.Saying.{prove_command, asks_check, asks_prove, asks_export, asks_isar, asks_convert, asks_rewrite, asks_confirm, one_problem, one_aim}
+use Rattle.larus_cli.proofs.Saying.{prove_command, asks_check, asks_prove, asks_export, asks_isar, asks_convert, asks_rewrite, refute_command, asks_refute, asks_confirm, one_problem, one_aim}
 
 -- an answer with status 0 goes to the output, and the command is done
 done_row : {words : List Text} {files later : Known} {output : Bool} {text : Text} {status : ℕ} → Answer words files later output text status →
@@ -86,6 +89,11 @@ looks_prove : (words : List Text) (problem : Text) (most : ℕ) (files : Known) 
 looks_prove words problem most files few are = subst (λ ws. looked_at ws files ≡ files) (sym are)
     (subst (λ command. looked_in command files ≡ files) (sym (prove_command problem most few)) refl)
 
+looks_refute : (words : List Text) (problem : Text) (size : ℕ) (files : Known) → 1 ≤ size → size ≤ MOST_SOUGHT → words ≡ refute_words problem size →
+    looked_at words files ≡ files
+looks_refute words problem size files some few are = subst (λ ws. looked_at ws files ≡ files) (sym are)
+    (subst (λ command. looked_in command files ≡ files) (sym (refute_command problem size some few)) refl)
+
 -- what is asked of a problem is one thing
 judged_sought : {wanted : Wanted} {format : Format} {second : Text} {most : ℕ} → to_judge wanted format second ≡ to_prove most → ⊥
 judged_sought e = cc
@@ -104,6 +112,22 @@ sought_confirmed e = cc
 
 printed_confirmed : {model : Text} → to_print ≡ to_confirm model → ⊥
 printed_confirmed e = cc
+
+judged_refuted : {wanted : Wanted} {format : Format} {second : Text} {size : ℕ} → to_judge wanted format second ≡ to_refute size → ⊥
+judged_refuted e = cc
+
+sought_refuted : {most size : ℕ} → to_prove most ≡ to_refute size → ⊥
+sought_refuted e = cc
+
+printed_refuted : {size : ℕ} → to_print ≡ to_refute size → ⊥
+printed_refuted e = cc
+
+refuted_confirmed : {size : ℕ} {model : Text} → to_refute size ≡ to_confirm model → ⊥
+refuted_confirmed e = cc
+
+-- the number of elements of a countermodel that is sought is one
+size_same : {size other : ℕ} → to_refute size ≡ to_refute other → size ≡ other
+size_same e = cc
 
 -- the bound within which a proof is sought is one
 bound_same : {most bound : ℕ} → to_prove most ≡ to_prove bound → most ≡ bound
@@ -151,6 +175,7 @@ follows_of s law {words = words} {files = files} outcome problem proof are e =
         (flat_follows s known.held other read.formulas read.reads (λ allowed. law read.formulas task body allowed read.has reads.accepted.proves))
     by known (proved other text most task body also reads smallest within is back) = absurd (judged_sought (one_aim words asks also))
     by known (converted other text formulas also reads is back) = absurd (judged_printed (one_aim words asks also))
+    by known (refuted other text bound formulas task m also reads has least is back) = absurd (judged_refuted (one_aim words asks also))
     by known (confirmed other second text formulas task m also reads counter is) = absurd (judged_confirmed (one_aim words asks also))
 
 -- where the formulas of a flat problem exclude proofs of their task, which may be in a problem, the problem has none
@@ -166,9 +191,9 @@ Exclusion = (problem : List Fof) (task : CitedTask) (m : Finite) (body : Body) �
     IsSound m → IsCountermodel task.tables.constants problem m → Proves (proof_task task) body → ⊥
 
 -- the problem of a confirmed countermodel has no proof
-pub refuted_of : Exclusion → {words : List Text} {files later : Known} {old new : Sinks} {status : ℕ} → Outcome words files later old new status →
+pub confirmed_of : Exclusion → {words : List Text} {files later : Known} {old new : Sinks} {status : ℕ} → Outcome words files later old new status →
     (problem model : Text) → words ≡ confirm_words problem model → status ≡ 0 → ProblemRefuted files problem
-refuted_of law {words = words} {files = files} outcome problem model are e =
+confirmed_of law {words = words} {files = files} outcome problem model are e =
     subst (λ f. ProblemRefuted f problem) (looks_confirm words problem model files are) (by (looked_at words files) (done_of outcome e).1)
   where
     asks : Asks words problem (to_confirm model)
@@ -178,6 +203,7 @@ refuted_of law {words = words} {files = files} outcome problem model are e =
     by known (judged wanted format other another text task script body also reads is keeps) = absurd (judged_confirmed (one_aim words also asks))
     by known (proved other text most task body also reads smallest within is back) = absurd (sought_confirmed (one_aim words also asks))
     by known (converted other text formulas also reads is back) = absurd (printed_confirmed (one_aim words also asks))
+    by known (refuted other text bound formulas task m also reads has least is back) = absurd (refuted_confirmed (one_aim words also asks))
     by known (confirmed other second text formulas task m also reads counter is) =
         subst (ProblemRefuted known) (one_problem words also asks)
         (flat_refuted known.held other formulas task reads.reads reads.has
@@ -203,6 +229,7 @@ printed_of {words = words} {files = files} {old = old} {new = new} outcome probl
     by : (known : Known) {text : Text} → Done words known text → Puts old.out new.out text → ProblemPrinted known problem old.out new.out
     by known (judged wanted format other another text task script body also reads is keeps) put = absurd (judged_printed (one_aim words also asks))
     by known (proved other text most task body also reads smallest within is back) put = absurd (sought_printed (one_aim words also asks))
+    by known (refuted other text bound formulas task m also reads has least is back) put = absurd (printed_refuted (one_aim words asks also))
     by known (confirmed other second text formulas task m also reads counter is) put = absurd (printed_confirmed (one_aim words asks also))
     by known (converted other text formulas also reads is back) put =
         subst (λ p. ProblemPrinted known p old.out new.out) (one_problem words also asks)
@@ -227,6 +254,8 @@ by_asks {words = words} known format edition problem proof old new asks (proved 
     absurd (judged_sought (one_aim words asks also))
 by_asks {words = words} known format edition problem proof old new asks (converted other text formulas also reads is back) put =
     absurd (judged_printed (one_aim words asks also))
+by_asks {words = words} known format edition problem proof old new asks (refuted other text bound formulas task m also reads has least is back) put =
+    absurd (judged_refuted (one_aim words asks also))
 by_asks {words = words} known format edition problem proof old new asks (confirmed other second text formulas task m also reads counter is) put =
     absurd (judged_confirmed (one_aim words asks also))
 
@@ -269,6 +298,7 @@ exported_of {words = words} {files = files} {old = old} {new = new} outcome prob
         (record { task = task; script = script; body = body; reads = read; text = text; puts = put; back = kept })
     by known (proved other text most task body also reads smallest within is back) put = absurd (judged_sought (one_aim words asks also))
     by known (converted other text formulas also reads is back) put = absurd (judged_printed (one_aim words asks also))
+    by known (refuted other text bound formulas task m also reads has least is back) put = absurd (judged_refuted (one_aim words asks also))
     by known (confirmed other second text formulas task m also reads counter is) put = absurd (judged_confirmed (one_aim words asks also))
 
 -- what is printed for a proof that was sought reads back as a smallest one
@@ -290,6 +320,7 @@ proved_of {words = words} {files = files} {old = old} {new = new} outcome proble
         subst (λ (k : Text × ℕ). SmallestPrinted known k.0 k.1 old.out new.out) (λ i. (file i, same i))
         (record { task = task; body = body; reads = reads; smallest = smallest; within = within; text = text; puts = put; back = back })
     by known (converted other text formulas also reads is back) put = absurd (sought_printed (one_aim words asks also))
+    by known (refuted other text bound formulas task m also reads has least is back) put = absurd (sought_refuted (one_aim words asks also))
     by known (confirmed other second text formulas task m also reads counter is) put = absurd (sought_confirmed (one_aim words asks also))
 
 -- where a proof is sought, an answer with status 1 tells that there is none
@@ -304,6 +335,7 @@ none_row {words = words} {files = files} (none_up_to other bound task also reads
     subst (λ (k : Text × ℕ). (task : CitedTask) × ReadsTask files k.0 task × HasNoProof task k.1) (λ i. (file i, same i)) (task, reads, none) in
     let text : none_text bound ≡ none_text most = ap none_text same in
     (refl, text, there)
+none_row {words = words} (none_sized other size formulas task also reads has none) problem most asks e = absurd (sought_refuted (one_aim words asks also))
 none_row {words = words} (model_fails other second formulas task m refusal also reads is) problem most asks e = absurd (sought_confirmed (one_aim words asks also))
 none_row row problem most asks e = absurd (omega arith)
 
@@ -322,6 +354,73 @@ none_of {words = words} {files = files} {old = old} {new = new} (answered output
     })
 none_of outcome problem most few are e = absurd (omega arith)
 
+-- what is printed for a countermodel that was sought is the text of a least one
+pub refuted_of : {words : List Text} {files later : Known} {old new : Sinks} {status : ℕ} → Outcome words files later old new status →
+    (problem : Text) (size : ℕ) → 1 ≤ size → size ≤ MOST_SOUGHT → words ≡ refute_words problem size → status ≡ 0 →
+    LeastModelPrinted files problem size old.out new.out
+refuted_of {words = words} {files = files} {old = old} {new = new} outcome problem size some few are e =
+    subst (λ f. LeastModelPrinted f problem size old.out new.out) (looks_refute words problem size files some few are)
+    (by (looked_at words files) (done_of outcome e).1 (done_of outcome e).2)
+  where
+    asks : Asks words problem (to_refute size)
+    asks = asks_refute words problem size some few are
+
+    by : (known : Known) {text : Text} → Done words known text → Puts old.out new.out text → LeastModelPrinted known problem size old.out new.out
+    by known (judged wanted format other another text task script body also reads is keeps) put = absurd (judged_refuted (one_aim words also asks))
+    by known (proved other text most task body also reads smallest within is back) put = absurd (sought_refuted (one_aim words also asks))
+    by known (converted other text formulas also reads is back) put = absurd (printed_refuted (one_aim words also asks))
+    by known (refuted other text bound formulas task m also reads has least is back) put =
+        let file : other ≡ problem = one_problem words also asks in
+        let same : bound ≡ size = size_same (one_aim words also asks) in
+        subst (λ (k : Text × ℕ). LeastModelPrinted known k.0 k.1 old.out new.out) (λ i. (file i, same i)) (record {
+          task = task;
+          m = m;
+          reads = record { formulas = formulas; reads = reads; has = has };
+          least = least;
+          puts = subst (Puts old.out new.out) is put;
+          back = subst (λ t. IsModelOf t m) is back;
+        })
+    by known (confirmed other second text formulas task m also reads counter is) put = absurd (refuted_confirmed (one_aim words asks also))
+
+-- where a countermodel is sought, an answer with status 1 tells that there is none
+sized_row : {words : List Text} {files later : Known} {output : Bool} {text : Text} {status : ℕ} → Answer words files later output text status →
+    (problem : Text) (size : ℕ) → Asks words problem (to_refute size) → status ≡ 1 →
+    (output ≡ true) × (text ≡ none_text size) × ((task : CitedTask) × (reads : ReadsTask files problem task) ×
+    HasNoModel reads.formulas task size)
+sized_row {words = words} (step_refused other second format task script refusal names reads is) problem size asks e =
+    absurd (judged_refuted (one_aim words names.1 asks))
+sized_row {words = words} (none_up_to other most task also reads none) problem size asks e = absurd (sought_refuted (one_aim words also asks))
+sized_row {words = words} {files = files} (none_sized other bound formulas task also reads has none) problem size asks e =
+    let file : other ≡ problem = one_problem words also asks in
+    let same : bound ≡ size = size_same (one_aim words also asks) in
+    let text : none_text bound ≡ none_text size = ap none_text same in (
+      refl,
+      text,
+      (
+        task,
+        record { formulas = formulas; reads = subst (λ p. ReadsProblem files p formulas) file reads; has = has },
+        subst (λ n. HasNoModel formulas task n) same none,
+      ),
+    )
+sized_row {words = words} (model_fails other second formulas task m refusal also reads is) problem size asks e =
+    absurd (refuted_confirmed (one_aim words asks also))
+sized_row row problem size asks e = absurd (omega arith)
+
+-- where a countermodel is sought, status 1 tells that there is none with so few elements
+pub sized_of : {words : List Text} {files later : Known} {old new : Sinks} {status : ℕ} → Outcome words files later old new status →
+    (problem : Text) (size : ℕ) → 1 ≤ size → size ≤ MOST_SOUGHT → words ≡ refute_words problem size → status ≡ 1 →
+    NoModelTold files problem size old.out new.out
+sized_of {words = words} {files = files} {old = old} {new = new} (answered output text status row put) problem size some few are e =
+    let k = sized_row row problem size (asks_refute words problem size some few are) e in
+    let here = subst (λ o. PutsTo o old new text) k.0 put in
+    subst (λ f. NoModelTold f problem size old.out new.out) (looks_refute words problem size files some few are) (record {
+      task = k.2.0;
+      reads = k.2.1;
+      none = k.2.2;
+      puts = subst (λ t. Puts old.out new.out t) k.1 here.0;
+    })
+sized_of outcome problem size some few are e = absurd (omega arith)
+
 -- words that ask for something are a command
 pub asks_some : (words : List Text) (problem : Text) (aim : Aim) → Asks words problem aim → command_of words ≡ None → ⊥
 asks_some words problem aim asks none = let never = rw none at asks in cc
@@ -331,6 +430,7 @@ done_some : {words : List Text} {files : Known} {text : Text} → Done words fil
 done_some {words = words} (judged wanted format problem second text task script body asks reads is keeps) none = asks_some words problem _ asks none
 done_some {words = words} (proved problem text most task body asks reads smallest within is back) none = asks_some words problem _ asks none
 done_some {words = words} (converted problem text formulas asks reads is back) none = asks_some words problem _ asks none
+done_some {words = words} (refuted problem text size formulas task m asks reads has least is back) none = asks_some words problem _ asks none
 done_some {words = words} (confirmed problem second text formulas task m asks reads counter is) none = asks_some words problem _ asks none
 
 -- words that ask for a file are a command
@@ -344,6 +444,7 @@ usage_row : {words : List Text} {files later : Known} {output : Bool} {text : Te
 usage_row (done text row) none = absurd (done_some row none)
 usage_row {words = words} (step_refused problem second format task script refusal names reads is) none = absurd (asks_some words problem _ names.1 none)
 usage_row {words = words} (none_up_to problem most task asks reads is) none = absurd (asks_some words problem _ asks none)
+usage_row {words = words} (none_sized problem size formulas task asks reads has is) none = absurd (asks_some words problem _ asks none)
 usage_row {words = words} (model_fails problem second formulas task m refusal asks reads is) none = absurd (asks_some words problem _ asks none)
 usage_row {words = words} (problem_refused problem file why names told inner) none = absurd (asks_some words problem _ names.1 none)
 usage_row {words = words} (formula_refused problem formulas refusal names reads is) none = absurd (asks_some words problem _ names.1 none)
@@ -378,6 +479,7 @@ rose_looked (Some ConvertProblem) files later rose = rose
 rose_looked (Some ConvertVernacular) files later rose = rose
 rose_looked (Some ConvertIsar) files later rose = rose
 rose_looked (Some ConvertVersion2) files later rose = rose
+rose_looked (Some (Refute size)) files later rose = rose
 rose_looked (Some Confirm) files later rose = rose
 rose_looked None files later rose = rose
 
@@ -394,6 +496,7 @@ row_status : {words : List Text} {files later : Known} {output : Bool} {text : T
 row_status (done text row) = inl refl
 row_status (step_refused problem second format task script refusal names reads is) = inr (inl refl)
 row_status (none_up_to problem most task asks reads is) = inr (inl refl)
+row_status (none_sized problem size formulas task asks reads has is) = inr (inl refl)
 row_status (model_fails problem second formulas task m refusal asks reads is) = inr (inl refl)
 row_status (problem_refused problem file why names told inner) = inr (inr (inl refl))
 row_status (formula_refused problem formulas refusal names reads is) = inr (inr (inl refl))
@@ -457,6 +560,7 @@ unasked_rose (Some ConvertProblem) files later unasked rose = absurd unasked
 unasked_rose (Some ConvertVernacular) files later unasked rose = absurd unasked
 unasked_rose (Some ConvertIsar) files later unasked rose = absurd unasked
 unasked_rose (Some ConvertVersion2) files later unasked rose = absurd unasked
+unasked_rose (Some (Refute size)) files later unasked rose = absurd unasked
 unasked_rose (Some Confirm) files later unasked rose = absurd unasked
 
 -- where no file is asked for, the status is not 66
@@ -477,6 +581,7 @@ unasked_files ConvertProblem unasked other = absurd unasked
 unasked_files ConvertVernacular unasked other = absurd unasked
 unasked_files ConvertIsar unasked other = absurd unasked
 unasked_files ConvertVersion2 unasked other = absurd unasked
+unasked_files (Refute size) unasked other = absurd unasked
 unasked_files Confirm unasked other = absurd unasked
 
 -- a command on files looks at those of the program
@@ -490,6 +595,7 @@ looks_plain ConvertProblem files other = refl
 looks_plain ConvertVernacular files other = refl
 looks_plain ConvertIsar files other = refl
 looks_plain ConvertVersion2 files other = refl
+looks_plain (Refute size) files other = refl
 looks_plain Confirm files other = refl
 
 -- a text was put to one sink, or a part of it

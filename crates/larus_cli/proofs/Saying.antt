@@ -1,7 +1,7 @@
 -- What is said where a command ends early is a row of the table of answers.
 use Rattle.std.specs.Prelude.{◌≢◌, IfSome, IfOk, Result, Ok, Err, codes}
 use Rattle.std.specs.Fmt.{decimal}
-use Rattle.std.proofs.Common.{ℕ, ◌≡◌, ◌≤◌, inl, inr, ◌⊎◌, ◌++◌, true, false, List, Option, Some, None, ap, sym, subst, refl, ◌∙◌, arith}
+use Rattle.std.proofs.Common.{ℕ, zero, suc, ◌≡◌, ◌≤◌, inl, inr, ◌⊎◌, ◌++◌, true, false, List, Option, Some, None, ap, sym, subst, refl, ◌∙◌, arith}
 use Rattle.text_core.specs.declared.limits.TheConstants.{MOST_FILE_BYTES}
 use Rattle.text_core.specs.Names.{Text}
 use Rattle.text_core.proofs.Laws.{value_same}
@@ -29,6 +29,7 @@ use Rattle.model_text.specs.Texts.{ModelFault}
 use Rattle.finite_model.specs.Countermodels.{IsConfirmFault}
 use Rattle.finite_model.specs.declared.refusal.ConfirmRefusal.{ConfirmRefusal}
 use Rattle.finite_model.specs.declared.refusal.ConfirmRefusal.TheVariants as confirm
+use Rattle.model_search.specs.declared.find.TheConstants.{MOST_SOUGHT}
 use Rattle.proof_text.specs.declared.part.Edition.{Edition}
 use Rattle.proof_text.specs.declared.part.Edition.TheVariants.{First, Second}
 use Rattle.larus_cli.specs.declared.command.Wanted.TheVariants.{Size, Script}
@@ -37,10 +38,10 @@ use Rattle.larus_cli.specs.declared.command.Format.{Format}
 use Rattle.larus_cli.specs.declared.command.Format.TheVariants.{Vernacular, Isar}
 use Rattle.larus_cli.specs.declared.report.ProofWhy.TheVariants as reasons
 use Rattle.larus_cli.specs.declared.reading.Halt.{Halt}
-use Rattle.larus_cli.specs.declared.command.Command.TheVariants.{Prove}
+use Rattle.larus_cli.specs.declared.command.Command.TheVariants.{Prove, Refute}
 use Rattle.larus_cli.specs.declared.command.TheConstants.{MOST_STEPS}
-use Rattle.larus_cli.specs.Words.{command_of, search_within, names_in, check_words, prove_words, export_words, isar_words, convert_words, rewrite_words}
-use Rattle.larus_cli.specs.Words.{Aim, to_print, to_prove, to_judge, to_confirm, confirm_words, Asks, NamesProblem, NamesTask, NamesSecond, NamesBoth}
+use Rattle.larus_cli.specs.Words.{command_of, search_within, refute_within, names_in, check_words, prove_words, export_words, isar_words, convert_words, rewrite_words}
+use Rattle.larus_cli.specs.Words.{Aim, to_print, to_prove, to_judge, to_refute, to_confirm, refute_words, confirm_words, Asks, NamesProblem, NamesTask, NamesSecond, NamesBoth}
 use Rattle.larus_cli.proofs.Digits.{number_some}
 use Rattle.larus_cli.specs.Read.{ReadsProblem, ReadsTask, ReadsBytes, ReadsModel}
 use Rattle.larus_cli.specs.Answers.{Answer, of_problem, as_second, problem_refused, formula_refused, too_long, proof_refused, model_refused, model_fails, fault}
@@ -74,6 +75,22 @@ asks_convert words problem are = subst (λ ws. Asks ws problem to_print) (sym ar
 pub asks_confirm : (words : List Text) (problem model : Text) → words ≡ confirm_words problem model → Asks words problem (to_confirm model)
 asks_confirm words problem model are = subst (λ ws. Asks ws problem (to_confirm model)) (sym are) refl
 
+-- a countermodel with one element or more is sought
+refute_some : (size : ℕ) → 1 ≤ size → refute_within (Some size) ≡ Some (Refute size)
+refute_some zero some = absurd (omega arith)
+refute_some (suc size) some = refl
+
+-- the words by which a countermodel is sought are that command
+pub refute_command : (problem : Text) (size : ℕ) → 1 ≤ size → size ≤ MOST_SOUGHT → command_of (refute_words problem size) ≡ Some (Refute size)
+refute_command problem size some few =
+    ap refute_within (number_some MOST_SOUGHT size (decimal size) (omega arith) few refl) ∙ refute_some size some
+
+-- what those words ask for
+pub asks_refute : (words : List Text) (problem : Text) (size : ℕ) → 1 ≤ size → size ≤ MOST_SOUGHT → words ≡ refute_words problem size →
+    Asks words problem (to_refute size)
+asks_refute words problem size some few are = subst (λ ws. Asks ws problem (to_refute size)) (sym are)
+    (subst (λ command. names_in command (refute_words problem size) ≡ Some (problem, to_refute size)) (sym (refute_command problem size some few)) refl)
+
 -- the words by which a proof within a bound is sought are that command
 pub prove_command : (problem : Text) (most : ℕ) → most ≤ MOST_STEPS → command_of (prove_words problem most) ≡ Some (Prove most)
 prove_command problem most few = ap search_within (number_some MOST_STEPS most (decimal most) (omega arith) few refl)
@@ -100,6 +117,10 @@ task_prove words problem most asks = (to_prove most, asks, λ e. cc)
 -- words that name a second file want the problem's task
 pub task_both : (words : List Text) (problem : Text) (format : Format) (second : Text) → NamesBoth words problem format second → NamesTask words problem
 task_both words problem format second names = (to_judge names.0 format second, names.1, λ e. cc)
+
+-- words that seek a countermodel want the problem's task
+pub task_refute : (words : List Text) (problem : Text) (size : ℕ) → Asks words problem (to_refute size) → NamesTask words problem
+task_refute words problem size asks = (to_refute size, asks, λ e. cc)
 
 -- words that confirm a countermodel want the problem's task, and name a second file
 pub task_confirm : (words : List Text) (problem second : Text) → Asks words problem (to_confirm second) → NamesTask words problem

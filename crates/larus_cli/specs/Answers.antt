@@ -9,7 +9,7 @@ use Rattle.io_core.specs.Fetched.{Fails, IsLong}
 use Rattle.include_flat.specs.declared.refusal.FlatWhy.{FlatWhy}
 use Rattle.include_flat.specs.Refusals.{IsFlatRefused, IsAskedFor, IsOutside}
 use Rattle.coherent_form.specs.declared.task_refusal.TaskRefusal.{TaskRefusal}
-use Rattle.coherent_form.specs.Tasks.{CitedTask, IsTaskFault}
+use Rattle.coherent_form.specs.Tasks.{CitedTask, IsTaskOf, IsTaskFault}
 use Rattle.proof_text.specs.Values.{Written}
 use Rattle.proof_checker.specs.declared.refusal.StepRefusal.{StepRefusal}
 use Rattle.proof_checker.specs.Faults.{IsFault}
@@ -20,12 +20,13 @@ use Rattle.finite_model.specs.Countermodels.{IsConfirmFault}
 use Rattle.finite_model.specs.declared.refusal.ConfirmRefusal.{ConfirmRefusal}
 use Rattle.larus_cli.specs.declared.command.Format.{Format}
 use Rattle.larus_cli.specs.declared.report.ProofWhy.{ProofWhy}
-use Rattle.larus_cli.specs.Words.{command_of, to_prove, to_confirm, Asks}
+use Rattle.larus_cli.specs.Words.{command_of, to_prove, to_refute, to_confirm, Asks}
 use Rattle.larus_cli.specs.Words.{NamesProblem, NamesTask, NamesSecond, NamesBoth}
 use Rattle.larus_cli.specs.Texts.{fault_text, too_long_text, flat_text, formula_text}
 use Rattle.larus_cli.specs.Texts.{proof_text, model_text, step_text, none_text, confirm_text, usage_text}
 use Rattle.larus_cli.specs.Read.{ReadsProblem, ReadsTask, ReadsBytes, SpellsNone, ReadsScript, ReadsModel}
 use Rattle.larus_cli.specs.Smallest.{HasNoProof}
+use Rattle.larus_cli.specs.LeastModel.{HasNoModel}
 use Rattle.larus_cli.specs.Done.{Done}
 
 -- the files are asked for this one: by the walk over the problem, or as the second file
@@ -49,6 +50,11 @@ pub data Answer (words : List Text) (files later : Known) : Bool → Text → �
   none_up_to : (problem : Text) (most : ℕ) (task : CitedTask) →
       Asks words problem (to_prove most) → ReadsTask files problem task → HasNoProof task most →
       Answer words files later true (none_text most) 1
+  -- 1: no structure with at most so many elements is a countermodel of the problem
+  none_sized : (problem : Text) (size : ℕ) (formulas : List Fof) (task : CitedTask) →
+      Asks words problem (to_refute size) → ReadsProblem files problem formulas →
+      IsTaskOf formulas task → HasNoModel formulas task size →
+      Answer words files later true (none_text size) 1
   -- 1: the structure is no countermodel of the problem
   model_fails : (problem second : Text) (formulas : List Fof) (task : CitedTask) (m : Finite)
       (refusal : ConfirmRefusal) → Asks words problem (to_confirm second) →

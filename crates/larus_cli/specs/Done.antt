@@ -6,21 +6,24 @@ use Rattle.vernacular_tree.specs.declared.tree.Body.{Body}
 use Rattle.vernacular_tree.specs.Sizes.{size}
 use Rattle.io_core.specs.Known.{Known}
 use Rattle.tptp_printer.specs.Canonical.{problem_text}
-use Rattle.coherent_form.specs.Tasks.{CitedTask}
+use Rattle.coherent_form.specs.Tasks.{CitedTask, IsTaskOf}
 use Rattle.proof_text.specs.declared.part.Edition.TheVariants.{First}
 use Rattle.proof_text.specs.Canonical.{script_text}
 use Rattle.proof_text.specs.ScriptOf.{script_of}
 use Rattle.proof_text.specs.Values.{Written}
 use Rattle.isar_text.specs.Bodies.{isar_proof}
 use Rattle.english_text.specs.English.{english_text}
+use Rattle.model_text.specs.Canonical.{model_text}
 use Rattle.model_text.specs.Structures.{Finite}
+use Rattle.model_text.specs.Texts.{IsModelOf}
 use Rattle.finite_model.specs.Countermodels.{IsCountermodel}
 use Rattle.larus_cli.specs.declared.command.Format.{Format}
 use Rattle.larus_cli.specs.declared.command.Wanted.{Wanted}
 use Rattle.larus_cli.specs.declared.command.Wanted.TheVariants.{Size, Script, Isar, English, Demo}
 use Rattle.larus_cli.specs.Texts.{accepted_text, demo_text, countermodel_text}
-use Rattle.larus_cli.specs.Words.{to_print, to_prove, to_judge, to_confirm, Asks}
+use Rattle.larus_cli.specs.Words.{to_print, to_prove, to_judge, to_refute, to_confirm, Asks}
 use Rattle.larus_cli.specs.Smallest.{IsSmallest}
+use Rattle.larus_cli.specs.LeastModel.{IsLeastModel}
 use Rattle.larus_cli.specs.Read.{ReadsProblem, ReadsTask, ReadsProof, ReadsModel}
 use Rattle.larus_cli.specs.Printed.{ReadsBack, ReadsBackAs, ReadsBackInIsar}
 
@@ -59,6 +62,12 @@ pub data Done (words : List Text) (files : Known) : Text → Type 0 where
   converted : (problem text : Text) (formulas : List Fof) → Asks words problem to_print →
       ReadsProblem files problem formulas → text ≡ problem_text formulas → ReadsBack text formulas →
       Done words files text
+  -- the text is the canonical one of a countermodel of the problem with the fewest elements, at
+  -- most so many, and spells it
+  refuted : (problem text : Text) (size : ℕ) (formulas : List Fof) (task : CitedTask) (m : Finite) →
+      Asks words problem (to_refute size) → ReadsProblem files problem formulas →
+      IsTaskOf formulas task → IsLeastModel formulas task size m → text ≡ model_text m →
+      IsModelOf text m → Done words files text
   -- the structure in the second file is a countermodel of the problem
   confirmed : (problem second text : Text) (formulas : List Fof) (task : CitedTask) (m : Finite) →
       Asks words problem (to_confirm second) →

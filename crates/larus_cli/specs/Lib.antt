@@ -7,6 +7,7 @@ pub mod Refuted
 pub mod Read
 pub mod Printed
 pub mod Smallest
+pub mod LeastModel
 pub mod Done
 pub mod Sought
 pub mod Answers

@@ -1,6 +1,7 @@
 -- How a run of the program ends.
 use Rattle.std.specs.Prelude.{ℕ, ◌≡◌, ◌≢◌, Bool, true, false, List, None}
 use Rattle.text_core.specs.Names.{Text}
+use Rattle.logic_core.specs.declared.problem.Fof.{Fof}
 use Rattle.vernacular_tree.specs.declared.tree.Body.{Body}
 use Rattle.io_core.specs.Known.{Known}
 use Rattle.io_core.specs.Stream.{Stream, Puts, Breaks}
@@ -8,9 +9,12 @@ use Rattle.coherent_form.specs.Tasks.{CitedTask}
 use Rattle.proof_text.specs.declared.part.Edition.TheVariants.{First}
 use Rattle.proof_text.specs.Canonical.{script_text}
 use Rattle.proof_text.specs.ScriptOf.{script_of}
-use Rattle.larus_cli.specs.Words.{command_of, to_prove, Asks}
+use Rattle.model_text.specs.Canonical.{model_text}
+use Rattle.model_text.specs.Structures.{Finite}
+use Rattle.larus_cli.specs.Words.{command_of, to_prove, to_refute, Asks}
 use Rattle.larus_cli.specs.OwnFiles.{looked_at}
 use Rattle.larus_cli.specs.Smallest.{IsSmallest}
+use Rattle.larus_cli.specs.LeastModel.{IsLeastModel}
 use Rattle.larus_cli.specs.Answers.{Answer}
 
 -- the output and the errors at a moment
@@ -55,12 +59,15 @@ pub record IsSettled (status : ℕ) : Type 0 where
   pub put : status ≢ 74
 
 -- what two runs with the same words put: one text, or where a proof is sought, the texts of two
--- smallest proofs of one task
+-- smallest proofs of one task, and where a countermodel is, those of two least ones of one problem
 pub data Alike (words : List Text) : Text → Text → Type 0 where
   one_text : (text : Text) → Alike words text text
   two_smallest : (problem : Text) (most : ℕ) (task : CitedTask) (body other : Body) →
       Asks words problem (to_prove most) → IsSmallest task body → IsSmallest task other →
       Alike words (script_text (script_of First task body)) (script_text (script_of First task other))
+  two_least : (problem : Text) (size : ℕ) (formulas : List Fof) (task : CitedTask) (m n : Finite) →
+      Asks words problem (to_refute size) → IsLeastModel formulas task size m →
+      IsLeastModel formulas task size n → Alike words (model_text m) (model_text n)
 
 -- two runs with the same words put alike texts to the same sink, with one status
 pub record EndAlike (words : List Text) (old new before after : Sinks) (status other : ℕ)

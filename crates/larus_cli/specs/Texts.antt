@@ -186,4 +186,5 @@ usage_text = ended (codes "44 Usage") ++ ended (codes "check PROBLEM PROOF") ++
     ended (codes "export isar PROBLEM PROOF") ++ ended (codes "export english PROBLEM PROOF") ++
     ended (codes "convert problem PROBLEM") ++ ended (codes "convert vernacular PROBLEM PROOF") ++
     ended (codes "convert isar PROBLEM ISARTEXT") ++ ended (codes "demo K") ++
-    ended (codes "convert version2 PROBLEM PROOF") ++ ended (codes "confirm PROBLEM MODEL")
+    ended (codes "convert version2 PROBLEM PROOF") ++ ended (codes "refute PROBLEM SIZE") ++
+    ended (codes "confirm PROBLEM MODEL")

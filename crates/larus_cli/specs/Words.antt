@@ -6,9 +6,10 @@ use Rattle.text_core.specs.Names.{Text}
 use Rattle.proof_text.specs.declared.part.Edition as Edition
 use Rattle.proof_text.specs.declared.part.Edition.TheVariants.{First, Second}
 use Rattle.problem_suite.specs.declared.made.TheConstants.{MOST_IMPLICATIONS}
+use Rattle.model_search.specs.declared.find.TheConstants.{MOST_SOUGHT}
 use Rattle.problem_suite.specs.MadeTexts.{made_problem_text, made_proof_text}
 use Rattle.larus_cli.specs.declared.command.Command.{Command}
-use Rattle.larus_cli.specs.declared.command.Command.TheVariants.{Check, Prove, ExportIsar, ExportEnglish, ConvertProblem, ConvertVernacular, ConvertIsar, ConvertVersion2, Demo, Confirm}
+use Rattle.larus_cli.specs.declared.command.Command.TheVariants.{Check, Prove, ExportIsar, ExportEnglish, ConvertProblem, ConvertVernacular, ConvertIsar, ConvertVersion2, Demo, Refute, Confirm}
 use Rattle.larus_cli.specs.declared.command.Format.{Format}
 use Rattle.larus_cli.specs.declared.command.Format.TheVariants as reads
 use Rattle.larus_cli.specs.declared.command.Wanted.{Wanted}
@@ -27,6 +28,12 @@ demo_within (Some zero) = None
 demo_within (Some (suc k)) = Some (Demo (suc k))
 demo_within None = None
 
+-- the search for a countermodel that a number of elements asks for; one for none is no command
+abbrev pub refute_within : Option ℕ → Option Command
+refute_within (Some zero) = None
+refute_within (Some (suc size)) = Some (Refute (suc size))
+refute_within None = None
+
 -- the export of a proof that a word asks for
 abbrev pub export_of : Text → Option Command
 export_of word = if bytes_eq word (codes "isar") then Some ExportIsar else
@@ -40,9 +47,10 @@ conversion_of word = if bytes_eq word (codes "vernacular") then Some ConvertVern
 
 -- `check PROBLEM PROOF`, `prove PROBLEM MOST`, `export isar PROBLEM PROOF`,
 -- `export english PROBLEM PROOF`, `convert problem PROBLEM`, `convert vernacular PROBLEM PROOF`,
--- `convert isar PROBLEM ISARTEXT`, `convert version2 PROBLEM PROOF`, `demo K` and
--- `confirm PROBLEM MODEL`, with any words for the names, MOST in decimal, at most `MOST_STEPS`, and K
--- in decimal, from 1 to `MOST_IMPLICATIONS`; all other lists are no command
+-- `convert isar PROBLEM ISARTEXT`, `convert version2 PROBLEM PROOF`, `demo K`,
+-- `refute PROBLEM SIZE` and `confirm PROBLEM MODEL`, with any words for the names, and in decimal
+-- MOST, at most `MOST_STEPS`, K, from 1 to `MOST_IMPLICATIONS`, and SIZE, from 1 to `MOST_SOUGHT`;
+-- all other lists are no command
 abbrev pub command_of : List Text → Option Command
 command_of (first ∷ second ∷ []) =
     if bytes_eq first (codes "demo") then demo_within (number_of MOST_IMPLICATIONS second) else None
@@ -50,7 +58,8 @@ command_of (first ∷ second ∷ third ∷ []) = if bytes_eq first (codes "check
     (if bytes_eq first (codes "prove") then search_within (number_of MOST_STEPS third) else
     (if bytes_eq first (codes "convert")
     then (if bytes_eq second (codes "problem") then Some ConvertProblem else None) else
-    (if bytes_eq first (codes "confirm") then Some Confirm else None)))
+    (if bytes_eq first (codes "refute") then refute_within (number_of MOST_SOUGHT third) else
+    (if bytes_eq first (codes "confirm") then Some Confirm else None))))
 command_of (first ∷ second ∷ third ∷ fourth ∷ []) =
     if bytes_eq first (codes "export") then export_of second else
     (if bytes_eq first (codes "convert") then conversion_of second else None)
@@ -73,6 +82,10 @@ isar_words problem text = codes "convert" ∷ codes "isar" ∷ problem ∷ text 
 abbrev pub convert_words : Text → List Text
 convert_words problem = codes "convert" ∷ codes "problem" ∷ problem ∷ []
 
+-- the words of the search for a countermodel with at most so many elements
+abbrev pub refute_words : Text → ℕ → List Text
+refute_words problem size = codes "refute" ∷ problem ∷ decimal size ∷ []
+
 abbrev pub confirm_words : Text → Text → List Text
 confirm_words problem model = codes "confirm" ∷ problem ∷ model ∷ []
 
@@ -86,11 +99,13 @@ rewrite_words edition problem proof =
     codes "convert" ∷ edition_word edition ∷ problem ∷ proof ∷ []
 
 -- what is asked of a problem: its text, a proof within a bound, something of the proof in a second
--- file, which is read in this format, or whether the structure in a second file is a countermodel
+-- file, which is read in this format, a countermodel with at most so many elements, or whether the
+-- structure in a second file is one
 pub data Aim : Type 0 where
   to_print : Aim
   to_prove : ℕ → Aim
   to_judge : Wanted → Format → Text → Aim
+  to_refute : ℕ → Aim
   to_confirm : Text → Aim
 
 -- the second file, where one is asked for
@@ -98,6 +113,7 @@ abbrev pub second_in : Aim → Option Text
 second_in to_print = None
 second_in (to_prove most) = None
 second_in (to_judge wanted format second) = Some second
+second_in (to_refute size) = None
 second_in (to_confirm second) = Some second
 
 -- what is wanted of the proof in a second file, by the command that names one
@@ -143,6 +159,7 @@ demo_wanted k = wants.Demo k (length (made_problem_text k)) (length (made_proof_
 abbrev pub names_in : Option Command → List Text → Option (Text × Aim)
 names_in (Some (Prove most)) (first ∷ problem ∷ bound ∷ []) = Some (problem, to_prove most)
 names_in (Some ConvertProblem) (first ∷ second ∷ problem ∷ []) = Some (problem, to_print)
+names_in (Some (Refute size)) (first ∷ problem ∷ bound ∷ []) = Some (problem, to_refute size)
 names_in (Some Confirm) (first ∷ problem ∷ second ∷ []) = Some (problem, to_confirm second)
 names_in (Some (Demo k)) words =
     Some (demo_problem, to_judge (demo_wanted k) reads.Vernacular demo_proof)

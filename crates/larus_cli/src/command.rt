@@ -1,13 +1,15 @@
 ghost use Rattle.std.specs.Prelude.{◌≡◌, ◌≤◌, if◌then◌else◌, Some, None, codes};
 ghost use Rattle.std.specs.Str.{bytes_eq};
+ghost use Rattle.model_search.specs.declared.find.TheConstants.{MOST_SOUGHT};
 ghost use Rattle.problem_suite.specs.declared.made.TheConstants.{MOST_IMPLICATIONS};
 ghost use Rattle.larus_cli.specs.declared.command.Format.{Format};
 ghost use Rattle.larus_cli.specs.declared.command.Wanted.{Wanted};
 ghost use Rattle.larus_cli.specs.Numerals.{number_of};
-ghost use Rattle.larus_cli.specs.Words.{command_of, export_of, conversion_of, search_within, demo_within, wanted_of, format_of, to_print, to_prove, to_judge, to_confirm, Asks};
+ghost use Rattle.larus_cli.specs.Words.{command_of, export_of, conversion_of, search_within, demo_within, refute_within, wanted_of, format_of, to_print, to_prove, to_judge, to_refute, to_confirm, Asks};
 
 use crate::number::read_number;
 use logic_core::Bytes;
+use model_search::MOST_SOUGHT;
 use problem_suite::MOST_IMPLICATIONS;
 use proof_text::Edition;
 
@@ -41,6 +43,9 @@ pub enum Command {
     /// `demo K`: whether the made proof for so many implications, from 1 to `MOST_IMPLICATIONS`, is
     /// accepted as a proof of the made problem.
     Demo(u32),
+    /// `refute PROBLEM SIZE`: a countermodel of the problem with the fewest elements, where there is
+    /// one with at most so many, from 1 to `MOST_SOUGHT`.
+    Refute(u32),
     /// `confirm PROBLEM MODEL`: whether the finite structure is a countermodel of the problem.
     Confirm,
 }
@@ -90,6 +95,8 @@ pub fn read_words(words: &[Bytes]) -> Option<Command>
                 search(third.as_slice())
             } else if first.as_slice() == b"convert".as_slice() {
                 conversion(second.as_slice())
+            } else if first.as_slice() == b"refute".as_slice() {
+                refutation(third.as_slice())
             } else if first.as_slice() == b"confirm".as_slice() {
                 Some(Command::Confirm)
             } else {
@@ -127,6 +134,17 @@ fn demonstration(word: &[u8]) -> Option<Command>
         Some(0) => None,
         Some(k) => Some(Command::Demo(k)),
         None => None,
+    }
+}
+
+/// The command that seeks a countermodel with at most so many elements as the word tells, one or
+/// more.
+fn refutation(word: &[u8]) -> Option<Command>
+    ensures { result ≡ refute_within (number_of MOST_SOUGHT word.now) }
+{
+    match read_number(word, MOST_SOUGHT) {
+        Some(0) | None => None,
+        Some(size) => Some(Command::Refute(size)),
     }
 }
 
@@ -204,6 +222,20 @@ pub(crate) fn convert_name(words: &[Bytes]) -> &[u8]
 {
     match words {
         [_, _, problem] => problem.as_slice(),
+        _ => unreachable!(),
+    }
+}
+
+/// The name of the problem's file in the words that seek a countermodel with at most so many
+/// elements.
+pub(crate) fn refute_name(words: &[Bytes], size: u32) -> &[u8]
+    requires { command_of words.now ≡ Some (Command.Refute size) }
+    ensures asks { Asks words.now result.now (to_refute size) }
+    ensures some { 1 ≤ size }
+    ensures few { size ≤ MOST_SOUGHT }
+{
+    match words {
+        [_, problem, _] => problem.as_slice(),
         _ => unreachable!(),
     }
 }

@@ -6,12 +6,13 @@ ghost use Rattle.larus_cli.specs.Outcome.{IsReply};
 ghost use Rattle.larus_cli.specs.Reports.{Decides};
 
 use crate::command::{
-    Command, Format, Wanted, confirm_names, convert_name, file_names, prove_name,
+    Command, Format, Wanted, confirm_names, convert_name, file_names, prove_name, refute_name,
 };
 use crate::confirm::confirm;
 use crate::demo::demonstrate;
 use crate::judge::judge;
 use crate::reading::{Halt, read_problem, read_task};
+use crate::refute::refute;
 use crate::reply::{Reply, reply_of};
 use crate::report::Report;
 use crate::search::prove_task;
@@ -59,6 +60,21 @@ fn convert_problem<F: Files>(alloc: Global, words: &[Bytes], files: &mut F) -> R
     let problem = read_problem(alloc, files, convert_name(words))?;
     let text = print_problem(alloc, &problem)?;
     Ok(Report::Converted(text))
+}
+
+/// What there is to say of a problem of which a countermodel with few elements is sought.
+fn refute_problem<F: Files>(
+    alloc: Global,
+    words: &[Bytes],
+    size: u32,
+    files: &mut F,
+) -> Result<Report, Halt>
+    requires { command_of words.now ≡ Some (Command.Refute size) }
+    ensures decides { Decides words.now (F.known files.old) (F.known files.new) result }
+    ensures grows { Grows (F.known files.old) (F.known files.new) }
+{
+    let problem = refute_name(words, size);
+    refute(alloc, files, problem, size)
 }
 
 /// What there is to say of the structure in a second file, against a problem.
@@ -115,6 +131,7 @@ fn decide_files<F: Files>(
             files,
         ),
         Command::Demo(_) => unreachable!(),
+        Command::Refute(size) => refute_problem(alloc, words, size, files),
         Command::Confirm => confirm_files(alloc, words, files),
     }
 }

@@ -7,7 +7,7 @@ ghost use Rattle.larus_cli.specs.Outcome.{Sinks, Outcome, IsSettled, EndAlike};
 /// Each outcome is one: two runs with the same words, over files that are known to hold the same,
 /// put one text to the same sink with one status, unless a fetch failed (66), memory ran out (71)
 /// or the sink failed (74). Where a proof is sought, the two texts may be those of two smallest
-/// proofs.
+/// proofs, and where a countermodel is, those of two with the fewest elements.
 pub fn one_outcome()
     ensures { (words : List Text) (held : Held) (files later other last : Known)
         (old new before after : Sinks) (status end : ℕ)

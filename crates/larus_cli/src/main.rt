@@ -14,6 +14,7 @@ mod judge;
 mod law;
 mod number;
 mod reading;
+mod refute;
 mod reply;
 mod report;
 mod run;

@@ -32,10 +32,11 @@ pub enum Report {
     Accepted(u32),
     /// A step of the proof is refused.
     Refused(StepRefusal),
-    /// The canonical text of the problem, or of a script that stands for the proof, or the proof's
-    /// Isar or English text.
+    /// The canonical text of the problem, of a script that stands for the proof, or of a
+    /// countermodel, or the proof's Isar or English text.
     Converted(Bytes),
-    /// No proof of the problem has so many rule applications or fewer.
+    /// No proof of the problem has so many rule applications or fewer, or no countermodel of it so
+    /// many elements or fewer.
     NoneUpTo(u32),
     /// The made proof for so many implications is accepted, with so many rule applications; the made
     /// problem and the made proof have so many bytes.

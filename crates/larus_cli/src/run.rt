@@ -16,7 +16,7 @@ ghost use Rattle.larus_cli.specs.Complete.{IsReadable, CanBeDone, NoFault};
 ghost use Rattle.larus_cli.specs.Follows.{ProblemFollows};
 ghost use Rattle.larus_cli.specs.Refuted.{ProblemRefuted};
 ghost use Rattle.larus_cli.specs.Printed.{ProblemPrinted, ProofPrinted, IsarPrinted};
-ghost use Rattle.larus_cli.specs.Sought.{SmallestPrinted, NoneTold};
+ghost use Rattle.larus_cli.specs.Sought.{SmallestPrinted, NoneTold, LeastModelPrinted, NoModelTold};
 ghost use Rattle.larus_cli.specs.Outcome.{Outcome, sinks};
 
 use crate::command::{MOST_STEPS, read_words};
@@ -25,6 +25,7 @@ use coherent_form::proved_task_follows;
 use finite_model::countermodels_exclude_proofs;
 use io_core::{Files, Sink};
 use logic_core::{Bytes, World};
+use model_search::MOST_SOUGHT;
 use std::alloc::Global;
 
 /// What the program prints where its words are no command.
@@ -38,6 +39,7 @@ convert vernacular PROBLEM PROOF
 convert isar PROBLEM ISARTEXT
 demo K
 convert version2 PROBLEM PROOF
+refute PROBLEM SIZE
 confirm PROBLEM MODEL
 ";
 
@@ -89,12 +91,12 @@ fn answer<F: Files, O: Sink, E: Sink>(
 
 /// The program: it does what the words, those after the program's name, ask for, with these files
 /// and these two sinks, and answers the status with which it ends. 0: the proof is accepted, and
-/// printed where that is asked for, or a proof is found and printed, or the problem is printed, or
-/// the structure is a countermodel. 1: the proof is not accepted, or there is none within the bound,
-/// or the structure is no countermodel. 2: a file or a formula of the problem is refused. 3: the
-/// file of the proof or the model is refused. 64: the words are no command. 66: a file could not be
-/// fetched. 71: want of memory. 74: the sink of the answer failed. What is said of structures holds
-/// in each structure of every family `W`, which no code can look at.
+/// printed where that is asked for, or a proof or a countermodel is found and printed, or the problem
+/// is printed, or the structure is a countermodel. 1: the proof is not accepted, or there is no proof
+/// or countermodel within the bound, or the structure is no countermodel. 2: a file or a formula of
+/// the problem is refused. 3: the file of the proof or the model is refused. 64: the words are no
+/// command. 66: a file could not be fetched. 71: want of memory. 74: the sink of the answer failed.
+/// What is said of structures holds in each structure of every family `W`, which no code can look at.
 pub fn run<W: World, F: Files, O: Sink, E: Sink>(
     alloc: Global,
     words: &[Bytes],
@@ -138,15 +140,24 @@ pub fn run<W: World, F: Files, O: Sink, E: Sink>(
     ensures exported { (problem proof : Text)
         → words.now ≡ codes "export" ∷ codes "isar" ∷ problem ∷ proof ∷ [] → result ≡ 0
         → IsarPrinted (F.known files.old) problem proof (O.stream out.old) (O.stream out.new) }
+    // A countermodel that was sought: what is printed is the canonical text of one with the fewest
+    // elements, at most so many, and reads back as this one.
+    ensures refuted { (problem : Text) (size : ℕ) → 1 ≤ size → size ≤ MOST_SOUGHT
+        → words.now ≡ codes "refute" ∷ problem ∷ decimal size ∷ [] → result ≡ 0
+        → LeastModelPrinted (F.known files.old) problem size (O.stream out.old) (O.stream out.new) }
+    // No structure with so many elements or fewer is a countermodel of the problem.
+    ensures none_sized { (problem : Text) (size : ℕ) → 1 ≤ size → size ≤ MOST_SOUGHT
+        → words.now ≡ codes "refute" ∷ problem ∷ decimal size ∷ [] → result ≡ 1
+        → NoModelTold (F.known files.old) problem size (O.stream out.old) (O.stream out.new) }
     // A countermodel that is confirmed: no body of any size is a proof of the problem's task.
-    ensures refuted { (problem model : Text)
+    ensures confirmed { (problem model : Text)
         → words.now ≡ codes "confirm" ∷ problem ∷ model ∷ [] → result ≡ 0
         → ProblemRefuted (F.known files.old) problem }
     ensures outcome { Outcome words.now (F.known files.old) (F.known files.new)
         (sinks (O.stream out.old) (E.stream errs.old))
         (sinks (O.stream out.new) (E.stream errs.new)) result }
     // Where what is asked for is there, in its grammar and within its limits, and nothing outside
-    // fails, the command is done or there is no such proof, or memory ran out.
+    // fails, the command is done or there is no such proof or countermodel, or memory ran out.
     ensures complete { (held : Held) (problem : Text) (aim : Aim) → Asks words.now problem aim
         → (looked_at words.now (F.known files.old)).held ≡ Some held
         → IsReadable (looked_at words.now (F.known files.old)) problem aim
@@ -154,7 +165,7 @@ pub fn run<W: World, F: Files, O: Sink, E: Sink>(
         (sinks (O.stream out.old) (E.stream errs.old))
         (sinks (O.stream out.new) (E.stream errs.new))
         → IsAmong result (0 ∷ 1 ∷ 71 ∷ []) }
-    // Where besides there is such a proof, the command is done, or memory ran out.
+    // Where besides there is such a proof or countermodel, the command is done, or memory ran out.
     ensures succeeds { (held : Held) (problem : Text) (aim : Aim) → Asks words.now problem aim
         → (looked_at words.now (F.known files.old)).held ≡ Some held
         → CanBeDone (looked_at words.now (F.known files.old)) problem aim

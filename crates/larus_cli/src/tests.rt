@@ -8,5 +8,6 @@ mod export;
 mod faults;
 mod prove;
 mod refused;
+mod refute;
 mod running;
 mod words;

@@ -16,11 +16,11 @@ use Rattle.vernacular_tree.specs.declared.context.Line.TheVariants.{Facts, Cases
 use Rattle.vernacular_tree.specs.declared.context.Context.{Context}
 use Rattle.vernacular_tree.specs.declared.tree.Mp.{Mp}
 use Rattle.vernacular_tree.specs.declared.tree.End.{End, As, Efq, Cs', Row_of-Body, end_of-Body, more_of-Body}
-use Rattle.proof_plans.specs.Runs.{Case, Above, Fire, elements_of, lists_of, IsSeen, Has, IsKnown, IsRight, IsRun, MaySplit, IsAnswered, IsClosed, AreClosed, end_count, end_counts}
+use Rattle.proof_plans.specs.Runs.{Case, Above, Fire, elements_of, lists_of, IsSeen, Has, IsKnown, IsRight, IsRun, MaySplit, IsAnswered, IsClosed, AreClosed, root_of, end_count, end_counts}
 use Rattle.text_core.proofs.Laws.{each_map, each_append, each_index, each_get, each_both, each_mapped, some_with, get_behind, each_image_is_among}
 use Rattle.vernacular_tree.proofs.Numbers.{counted_length, counted_below, both_read, below_greater}
 use Rattle.vernacular_tree.proofs.Images.{keeps_more, elements_kept, image_same, atom_at_within, atom_at_image, lists_at_image}
-use Rattle.proof_plans.proofs.Seen.{above_same, above_case, has_grows, known_grows, split_grows, right_grows, closed_grows}
+use Rattle.proof_plans.proofs.Seen.{above_same, above_on, above_case, has_grows, known_grows, split_grows, right_grows, closed_grows}
 
 -- what has a number in a list with one more behind it
 snoc_get : {X : Type 0} (xs : List X) (x y : X) (i : ℕ) → slice_get (xs ++ x ∷ []) i ≡ Some y → (slice_get xs i ≡ Some y) ⊎ ((i ≡ length xs) × (x ≡ y))
@@ -51,6 +51,7 @@ module _ (constants : ℕ) (task : Task) (right : IsTask constants task) (from :
     pub itself : (a : ℕ) → a < from.elements → (a < length e) × (slice_index e a ≡ a)
     pub known : AllByRecursion (λ x. IsKnown from.elements fires (length fires) x branch) e
     pub lines : AllByRecursion (LineIs fires branch e) c.lines
+    pub rooted : Above (root_of from) branch
 
   -- applications in order, whose new elements are below a number
   pub record Front (fires : List Fire) (next : ℕ) : Type 0 where
@@ -95,6 +96,7 @@ module _ (constants : ℕ) (task : Task) (right : IsTask constants task) (from :
         known = each_map (λ x k. known_grows from.elements fires more (length fires) (length (fires ++ more)) x branch below (omega arith) down k) e h.known;
         lines = subst (λ (es : List ℕ). AllByRecursion (LineIs (fires ++ more) below es) c.lines) (append-nil e)
             (each_map (line_grows fires more branch below e [] down) c.lines h.lines);
+        rooted = above_on (root_of from) branch below h.rooted down;
       }
 
   -- a fact that stands in the context stands among the applications at its image
@@ -165,6 +167,8 @@ module _ (constants : ℕ) (task : Task) (right : IsTask constants task) (from :
             subst (λ (f : Fire). IsRight task from (fires ++ fire ∷ []) index f) new.1 (subst (λ (n : ℕ). IsRight task from (fires ++ fire ∷ []) n fire) at fire_right))
             (snoc_get fires fire other index is);
         apart = λ i j other later less is later_is. apart_by i j other later less (snoc_get fires fire other i is) (snoc_get fires fire later j later_is);
+        rooted = λ index other is. ⊎_elim (λ old. front.run.rooted index other old)
+            (λ new. subst (λ (f : Fire). Above (root_of from) f.branch) new.1 stage.rooted) (snoc_get fires fire other index is);
       };
       low = let l = front.low in omega arith;
       ends = λ i other is. ⊎_elim (λ old. let end = front.ends i other old in omega arith)
@@ -277,6 +281,7 @@ module _ (constants : ℕ) (task : Task) (right : IsTask constants task) (from :
           lines = each_append (LineIs (fires ++ fire ∷ []) branch after_e) c.lines (line_of line_lists ∷ [])
               (each_map (line_grows fires (fire ∷ []) branch branch e (counted next form.existentials) (above_same branch)) c.lines stage.lines)
               (new_line line_lists line_within line_image, tt);
+          rooted = stage.rooted;
         }
 
   -- an end, behind applications
@@ -369,6 +374,7 @@ module _ (constants : ℕ) (task : Task) (right : IsTask constants task) (from :
         known = down.known;
         lines = each_append (LineIs fires (case ∷ branch) e) c.lines (Facts facts ∷ []) down.lines
             ((within, each_map (λ fact among. inl (inl among)) facts (each_image_is_among (image e) facts)), tt);
+        rooted = down.rooted;
       }
 
   mutual

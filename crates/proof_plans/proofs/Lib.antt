@@ -1,6 +1,7 @@
 pub mod Rows
 pub mod Roots
 pub mod Seen
+pub mod Removed
 pub mod Flat
 pub mod Start
 pub mod Steps
@@ -21,5 +22,8 @@ pub mod Creators
 pub mod Taken
 pub mod Tried
 pub mod Tying
+pub mod Repeats
+pub mod Differing
+pub mod Signs
 pub mod Gathered
 pub mod Offered

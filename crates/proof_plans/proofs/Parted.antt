@@ -391,6 +391,7 @@ module _ (task : Task) (lent : Context) where
           keeps = answered_keeps d rest keeps disjunct by.atoms by.disjunct_is node by.last.branch by.last.is;
           fires = h.fires;
           run = h.run;
+          tight = h.tight;
           values = h.values ++ by.elements;
           indices = h.indices;
           left = by.ends;
@@ -427,6 +428,7 @@ module _ (task : Task) (lent : Context) where
           keeps = split_keeps d rest keeps rooted (list.Case line 0) node by.last.branch by.last.is by.lists (given_cases h.ok line by.given by.line_is by.lists by.lists_are node);
           fires = h.fires;
           run = h.run;
+          tight = h.tight;
           values = h.values;
           indices = h.indices;
           left = by.ends;
@@ -464,6 +466,7 @@ module _ (task : Task) (lent : Context) where
               (split lists branch (tied (over step branch) rest))) many grown;
           fires = h.fires;
           run = h.run;
+          tight = h.tight;
           values = h.values;
           indices = h.indices;
           left = by.ends;
@@ -513,6 +516,7 @@ module _ (task : Task) (lent : Context) where
           keeps = subst (λ (count : ℕ). Keeps task lent (split_draft of node count larger) (split lists branch plan)) many all;
           fires = h.fires;
           run = h.run;
+          tight = h.tight;
           values = h.values ++ by.elements;
           indices = h.indices ++ by.index ∷ [];
           left = by.ends;

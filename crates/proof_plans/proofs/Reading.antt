@@ -75,7 +75,7 @@ module _ (constants : ℕ) (task : Task) (right : IsTask constants task) (lent :
       }
 
 -- the variable of a slot reads the same
-slot_reads : (count constants base : ℕ) (s : Slot) → SlotIsBelow count constants s → slot_at (counted base count) s ≡ Constant (slot_variable base s)
+pub slot_reads : (count constants base : ℕ) (s : Slot) → SlotIsBelow count constants s → slot_at (counted base count) s ≡ Constant (slot_variable base s)
 slot_reads count constants base (Variable i) low = ap Constant (counted_index count base i low)
   where
     counted_index : (count base i : ℕ) → i < count → slice_index (counted base count) i ≡ base + i

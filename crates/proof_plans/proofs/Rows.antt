@@ -1,5 +1,6 @@
 -- Numbers in a row, and items that are repeated.
-use Rattle.std.proofs.Common.{◌≡◌, ℕ, zero, suc, ◌+◌, List, [], ◌∷◌, ◌++◌, replicate, refl, ap, ◌∙◌, arith, add-one}
+use Rattle.std.proofs.Common.{◌≡◌, ℕ, zero, suc, ◌+◌, List, [], ◌∷◌, ◌++◌, map, replicate, refl, ap, ◌∙◌, arith, add-one}
+use Rattle.std.specs.List.{AllByRecursion}
 use Rattle.vernacular_tree.specs.Contexts.{counted}
 
 -- numbers in a row with one more
@@ -19,3 +20,8 @@ replicate_more x n = rw add-one (go n)
     go : (n : ℕ) → replicate (suc n) x ≡ replicate n x ++ x ∷ []
     go zero = refl
     go (suc n) = ap (λ (xs : List _). x ∷ xs) (go n)
+
+-- what holds of the image of each item holds of each image
+pub each_images : {X Y : Type 0} (P : Y → Type 0) (f : X → Y) (xs : List X) → AllByRecursion (λ x. P (f x)) xs → AllByRecursion P (map f xs)
+each_images P f [] h = tt
+each_images P f (x ∷ xs) h = (h.0, each_images P f xs h.1)

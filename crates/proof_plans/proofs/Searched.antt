@@ -19,7 +19,10 @@ use Rattle.vernacular_tree.specs.Witnessed.{IsContext}
 use Rattle.vernacular_tree.specs.Rules.{IsProof}
 use Rattle.vernacular_tree.specs.Sizes.{size}
 use Rattle.vernacular_tree.specs.declared.tree.Body.{Body}
-use Rattle.proof_plans.specs.Runs.{root_of, end_count}
+use Rattle.vernacular_tree.specs.declared.tree.End.{End}
+use Rattle.proof_plans.specs.Runs.{Fire, IsRun, IsClosed, root_of, end_count}
+use Rattle.proof_plans.specs.Barren.{IsTight}
+use Rattle.proof_plans.proofs.Removed.{tight_enough}
 use Rattle.proof_plans.specs.Plans.{first_plan}
 use Rattle.proof_plans.specs.Drafts.{first_draft}
 use Rattle.proof_plans.proofs.Start.{flat, first_embeds}
@@ -52,6 +55,7 @@ module _ (task : Task) (lent : Context) (n : ℕ) where
     };
     fires = h.fires;
     run = h.run;
+    tight = h.tight;
     values = h.values;
     indices = h.indices;
     left = h.left;
@@ -92,6 +96,7 @@ module _ (task : Task) (lent : Context) (n : ℕ) where
     };
     fires = h.fires;
     run = h.run;
+    tight = h.tight;
     values = h.values;
     indices = h.indices;
     left = h.left;
@@ -141,6 +146,7 @@ module _ (task : Task) (lent : Context) (n : ℕ) where
         };
         fires = h.fires;
         run = h.run;
+        tight = h.tight;
         values = h.values;
         indices = h.indices;
         left = h.left;
@@ -225,35 +231,43 @@ joined_at start start2 bound bound2 fixed fixed2 left right is a b c h =
     subst (λ (f : List Bool). IsJoined start2 bound2 f left right is) c (subst (λ (l : List ℕ). IsJoined start2 l fixed left right is) b (subst (λ (s : ℕ). IsJoined s bound fixed left right is) a h))
 
 module _ (constants : ℕ) (task : Task) (right : IsTask constants task) (lent : Context) (ok : IsContext task lent) where
+  -- the first plan has hope by each run that closes the branch in which a proof begins
+  first_hope : (n : ℕ) (end : End) (fires : List Fire) → IsRun task lent fires → IsTight fires → IsClosed task lent fires end (root_of lent) → length fires + end_count end ≤ n
+      → Hope task lent n (first_draft lent.elements)
+  first_hope n end fires run tight closed small = record {
+    constants = constants;
+    right = right;
+    ok = ok;
+    plan = first_plan (root_of lent);
+    keeps = record {
+      start_is = refl;
+      bound_is = refl;
+      fixed_is = refl;
+      steps_are = tt;
+      ties_are = tt;
+      branches_are = (inl (refl, refl), tt);
+      closed_is = refl;
+      goals_are = tt;
+    };
+    fires = fires;
+    run = run;
+    tight = tight;
+    values = counted 0 lent.elements;
+    indices = [];
+    left = end ∷ [];
+    embeds = first_embeds constants task right lent ok fires end closed;
+    pairs = tt;
+    small = omega arith;
+  }
+
   -- where the first plan is without hope, there is no proof
   pub first_hopeless : (most : ℕ) (cut : Bool) → IsHopeless task lent most cut (first_draft lent.elements) → (body : Body) → IsProof task lent body → (cut ≡ true → size body ≤ most) → ⊥
   first_hopeless most cut hopeless body proves small =
       let run = flat constants task right lent ok body proves in
       let counts : length run.more + end_count body.end ≡ size body = run.counts in
-      hopeless (size body) small (record {
-        constants = constants;
-        right = right;
-        ok = ok;
-        plan = first_plan (root_of lent);
-        keeps = record {
-          start_is = refl;
-          bound_is = refl;
-          fixed_is = refl;
-          steps_are = tt;
-          ties_are = tt;
-          branches_are = (inl (refl, refl), tt);
-          closed_is = refl;
-          goals_are = tt;
-        };
-        fires = run.more;
-        run = run.front.run;
-        values = counted 0 lent.elements;
-        indices = [];
-        left = body.end ∷ [];
-        embeds = first_embeds constants task right lent ok run.more body.end run.closed;
-        pairs = tt;
-        small = omega arith;
-      })
+      tight_enough task lent body.end (root_of lent) (size body)
+      (λ fires is tight closed few. hopeless (size body) small (first_hope (size body) body.end fires is tight closed few))
+      (length run.more) run.more refl run.front.run run.closed (omega arith)
 
 -- a variable that was bound is free again
 pub bind_back : (d bound left again : Drafted) (at to free : ℕ) → bound ≡ record d { bound = set d.bound at to } → left ≡ bound → again ≡ record left { bound = set left.bound at free } → slice_get d.bound at ≡ Some free → again ≡ d

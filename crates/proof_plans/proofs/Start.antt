@@ -22,6 +22,7 @@ use Rattle.proof_plans.specs.Plans.{first_plan}
 use Rattle.proof_plans.specs.Embeds.{branch_image, Embeds}
 use Rattle.text_core.proofs.Laws.{each_map, each_append, some_front, some_back}
 use Rattle.vernacular_tree.proofs.Numbers.{counted_length, counted_at}
+use Rattle.proof_plans.proofs.Seen.{above_same}
 use Rattle.proof_plans.proofs.Flat.{LineIs, Stage, Front, EndIs, steps_flat, end_flat}
 
 -- as many numbers in a row as there are elements stand for themselves
@@ -100,12 +101,13 @@ module _ (constants : ℕ) (task : Task) (right : IsTask constants task) (from :
         (omega arith, let same = counted_at 0 from.elements a below in omega arith);
     known = each_map {Q = λ x. IsKnown from.elements [] 0 x (root_of from)} (λ x low. inl low) elements (counted_low from.elements 0 from.elements (omega arith));
     lines = lines_flat from.lines ok.lines (λ fact among. among) (λ lists among. among);
+    rooted = above_same (root_of from);
   }
 
   -- no applications are a run
   first_front : Front constants task right from ok.start [] from.elements
   first_front = record {
-    run = record { right = λ index fire is. absurd (cc); apart = λ i j fire later less is also. absurd (cc) };
+    run = record { right = λ index fire is. absurd (cc); apart = λ i j fire later less is also. absurd (cc); rooted = λ index fire is. absurd (cc) };
     low = omega arith;
     ends = λ i fire is. absurd (cc);
   }

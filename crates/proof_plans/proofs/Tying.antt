@@ -21,7 +21,7 @@ use Rattle.proof_plans.proofs.Searched.{agrees}
 use Rattle.proof_plans.proofs.Creators.{creator}
 
 -- the item with a number goes together with the one that has it in the other list
-both_at : {X Y : Type 0} (P : X → Y → Type 0) (xs : List X) (ys : List Y) → Both P xs ys → (k : ℕ) (x : X) → slice_get xs k ≡ Some x → (y : Y) × (slice_get ys k ≡ Some y) × P x y
+pub both_at : {X Y : Type 0} (P : X → Y → Type 0) (xs : List X) (ys : List Y) → Both P xs ys → (k : ℕ) (x : X) → slice_get xs k ≡ Some x → (y : Y) × (slice_get ys k ≡ Some y) × P x y
 both_at P [] [] h k x e = absurd (cc)
 both_at P [] (z ∷ ys) h k x e = absurd h
 both_at P (w ∷ xs) [] h k x e = absurd h
@@ -38,6 +38,7 @@ before_hope task lent n d h low user holds = record {
   keeps = tie_keeps task lent d h.plan h.keeps (tie.Before low user) (before low user) (refl, refl);
   fires = h.fires;
   run = h.run;
+  tight = h.tight;
   values = h.values;
   indices = h.indices;
   left = h.left;

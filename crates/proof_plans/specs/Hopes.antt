@@ -22,6 +22,7 @@ use Rattle.proof_plans.specs.declared.choice.Choice.TheVariants as choice
 use Rattle.proof_plans.specs.declared.open.Open as Open
 use Rattle.proof_plans.specs.declared.open.Open.TheVariants as open_value
 use Rattle.proof_plans.specs.Runs.{Case, Fire, IsRun, given_lists}
+use Rattle.proof_plans.specs.Barren.{IsTight}
 use Rattle.proof_plans.specs.Plans.{Goal, Plan}
 use Rattle.proof_plans.specs.Embeds.{IsBefore, IsUnder, IsOver, Embeds, ends_in}
 use Rattle.proof_plans.specs.Moves.{lists_in, next_step, grown, answered, split, with_goals, with_branches}
@@ -31,7 +32,8 @@ use Rattle.proof_plans.specs.Drafts.{Drafted, AreListed, IsBranch, IsReached, Is
 abbrev pub PairHolds : List ℕ → Pair → Type 0
 PairHolds values pair = slice_index values pair.left ≡ slice_index values pair.right
 
--- some proof from the context with at most so many applications has the plan as a part
+-- some proof from the context with at most so many applications, each of which makes something new,
+-- has the plan as a part
 pub record Hope (task : Task) (lent : Context) (most : ℕ) (d : Drafted) : Type 0 where
   pub constants : ℕ
   pub right : IsTask constants task
@@ -40,6 +42,7 @@ pub record Hope (task : Task) (lent : Context) (most : ℕ) (d : Drafted) : Type
   pub keeps : Keeps task lent d plan
   pub fires : List Fire
   pub run : IsRun task lent fires
+  pub tight : IsTight fires
   pub values : List ℕ
   pub indices : List ℕ
   pub left : List End

@@ -1,4 +1,5 @@
 pub mod Runs
+pub mod Barren
 pub mod Plans
 pub mod Embeds
 pub mod Moves
@@ -13,5 +14,8 @@ pub mod Choices
 pub mod Ways
 pub mod Hopes
 pub mod Creators
+pub mod Repeats
+pub mod Idle
+pub mod Signs
 pub mod Taking
 pub mod Verdicts

@@ -105,12 +105,15 @@ module _ (task : Task) (context : Context) where
         (λ atom. Has fires (atom_at fire.args atom) index fire.branch) fire.form.premises
     pub new : context.elements ≤ fire.first
 
-  -- all applications are right, and no new element has two of them
+  -- all applications are right, no new element has two of them, and each stands in the branch in
+  -- which the proof begins or in one to which that leads
   pub record IsRun (fires : List Fire) : Type 0 where
     pub right : (index : ℕ) (fire : Fire) → slice_get fires index ≡ Some fire
         → IsRight fires index fire
     pub apart : (i j : ℕ) (fire later : Fire) → i < j → slice_get fires i ≡ Some fire
         → slice_get fires j ≡ Some later → fire.first + fire.form.existentials ≤ later.first
+    pub rooted : (index : ℕ) (fire : Fire) → slice_get fires index ≡ Some fire
+        → Above (root_of context) fire.branch
 
   -- a branch may be split into these lists: they are those of a line of the context, or of an
   -- application that is seen and whose line is not one of facts

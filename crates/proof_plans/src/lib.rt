@@ -3,19 +3,23 @@
 #![tactic(auto)]
 
 mod apply;
+mod barren;
 mod choice;
 mod collect;
 mod draft;
 mod finish;
+mod idle;
 mod item;
 mod joining;
 mod open;
 mod pick;
 mod place;
 mod planner;
+mod reach;
 mod scene;
 mod search;
 mod settle;
+mod sign_table;
 mod word;
 
 pub use choice::Choice;
@@ -25,5 +29,6 @@ pub use joining::Joined;
 pub use open::Open;
 pub use place::{Deeper, Next, Place};
 pub use planner::{Element, Planner, Verdict};
+pub use reach::{Reached, Told};
 pub use scene::{Read, Scene};
 pub use settle::Settled;

@@ -3,7 +3,9 @@
 use crate::draft::{Draft, PlanGoal, PlanStep, PlanTie};
 use crate::item::{item_at, place_at};
 use crate::joining::{Joined, join, root};
-use crate::scene::{Read, Scene, base_of, goal_at, list_at};
+use crate::reach::is_unmet;
+use crate::scene::{Read, Scene, base_of, goal_at, list_at, variable_of};
+use crate::sign_table::SignTable;
 use crate::word::leads_to;
 use logic_core::{Atom, Form, Slot};
 use vernacular_tree::Line;
@@ -29,14 +31,6 @@ struct Tally {
 
 /// How many ways count as much as one variable that may stand for any element.
 const WAY_WEIGHT: usize = 4;
-
-/// The variable of a slot, as far as numbers go.
-fn variable_of(base: u32, slot: Slot) -> Option<u32> {
-    match slot {
-        Slot::Variable(variable) => base.checked_add(variable),
-        Slot::Constant(constant) => Some(constant),
-    }
-}
 
 /// How two slots go together.
 fn match_slots(draft: &Draft, base: u32, slot: Slot, other_base: u32, other: Slot) -> Match {
@@ -250,10 +244,19 @@ fn count_free(draft: &Draft, read: Read<'_>) -> usize {
 
 /// How much a goal leaves open: 0 for one that is known to stand, or has no way; ways count more
 /// than variables.
-fn weight_of(scene: &Scene<'_>, draft: &Draft, goal: PlanGoal, is_full: bool) -> usize {
+fn weight_of(
+    scene: &Scene<'_>,
+    draft: &Draft,
+    signs: &SignTable,
+    goal: PlanGoal,
+    is_full: bool,
+) -> usize {
     let Some(read) = goal_at(scene, goal) else {
         return 0;
     };
+    if is_unmet(scene, draft, signs.row(goal.node), goal) {
+        return 0;
+    }
     let mut tally = tally_of(scene, draft, goal, read);
     if tally.is_standing {
         return 0;
@@ -269,11 +272,16 @@ fn weight_of(scene: &Scene<'_>, draft: &Draft, goal: PlanGoal, is_full: bool) ->
 }
 
 /// The place of the goal that leaves least open, the newest one of several.
-pub(crate) fn next_goal(scene: &Scene<'_>, draft: &Draft, is_full: bool) -> usize {
+pub(crate) fn next_goal(
+    scene: &Scene<'_>,
+    draft: &Draft,
+    signs: &SignTable,
+    is_full: bool,
+) -> usize {
     let mut best = 0usize;
     let mut least = usize::MAX;
     for at in (0..draft.goals().len()).rev() {
-        let weight = weight_of(scene, draft, draft.goals()[at], is_full);
+        let weight = weight_of(scene, draft, signs, draft.goals()[at], is_full);
         if weight == 0 {
             return at;
         }

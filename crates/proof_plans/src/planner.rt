@@ -17,6 +17,7 @@ use crate::joining::root;
 use crate::place::Place;
 use crate::scene::Scene;
 use crate::search::{Work, run};
+use crate::sign_table::SignTable;
 use std::alloc::Global;
 use text_core::{MOST_FORM_VARIABLES, Memory};
 
@@ -79,6 +80,7 @@ impl Planner {
             work: Work {
                 choices: Vec::with_capacity(alloc, MOST_CHOICES)?,
                 places: Vec::with_capacity(alloc, steps)?,
+                signs: SignTable::new(alloc, steps)?,
                 cut: false,
                 fuel: 0,
             },
@@ -95,6 +97,7 @@ impl Planner {
         self.work.choices.truncate(0);
         self.work.cut = false;
         self.work.fuel = MOST_PLANS;
+        self.work.signs.begin(scene);
         if !self.draft.begin(elements) {
             return Verdict::Perhaps;
         }

@@ -126,7 +126,7 @@ pub(crate) fn goal_at<'b>(scene: &Scene<'b>, goal: PlanGoal) -> Option<Read<'b>>
 }
 
 /// The variable of a slot.
-fn variable_of(base: u32, slot: Slot) -> Option<u32>
+pub(crate) fn variable_of(base: u32, slot: Slot) -> Option<u32>
     ensures { IfSome result (λ variable. variable ≡ slot_variable base slot) }
 {
     match slot {

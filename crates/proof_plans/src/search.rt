@@ -8,6 +8,7 @@ ghost use Rattle.proof_plans.specs.Drafts as drafts;
 ghost use Rattle.proof_plans.specs.Hopes.{with_open, IsHopeless};
 ghost use Rattle.proof_plans.specs.Scenes.{IsScene};
 
+use crate::barren::has_barren;
 use crate::choice::Choice;
 use crate::draft::{Draft, Pair, PlanGoal};
 use crate::finish::may_stand;
@@ -16,15 +17,18 @@ use crate::joining::{Joined, join};
 use crate::open::{Open, gather, take};
 use crate::pick::{is_standing, next_goal};
 use crate::place::Place;
+use crate::reach::is_out_of_reach;
 use crate::scene::Scene;
 use crate::settle::is_impossible;
+use crate::sign_table::SignTable;
 
 /// What a search keeps besides the plan: the ways that are left, room to work out where steps stand,
-/// whether the bound cut something off, and how many more plans it looks at.
+/// the signs that may stand in each branch, whether the bound cut something off, and how many more plans it looks at.
 #[derive(Drop)]
 pub(crate) struct Work {
     pub(crate) choices: Vec<Choice>,
     pub(crate) places: Vec<Place>,
+    pub(crate) signs: SignTable,
     pub(crate) cut: bool,
     pub(crate) fuel: u64,
 }
@@ -62,7 +66,11 @@ pub(crate) fn run(
     if is_impossible(draft, &mut work.places) {
         return false;
     }
-    let at = next_goal(scene, draft, cost == most);
+    if has_barren(scene, draft) {
+        return false;
+    }
+    work.signs.update(scene, draft);
+    let at = next_goal(scene, draft, &work.signs, cost == most);
     if let Some(goal) = draft.take_goal(at) {
         return close_goal(scene, draft, work, most, depth - 1, goal) || !draft.put_goal(at, goal);
     }
@@ -129,6 +137,9 @@ fn close_goal(
     ensures hopeless { OnFalse result ((task : Task) (lent : Context) → IsScene task lent scene.now
         → IsHopeless task lent most work.new.cut (drafts.with_goal goal draft.old)) }
 {
+    if is_out_of_reach(scene, draft, work.signs.row(goal.node), goal) {
+        return false;
+    }
     if is_standing(scene, draft, goal) {
         run(scene, draft, work, most, depth)
     } else {

@@ -38,7 +38,7 @@ fn depth(nodes: &[Node], node: u32) -> Option<usize>
 }
 
 /// The branch that is so many splits above; `None` where it was followed too far.
-fn lifted(nodes: &[Node], node: u32, count: usize) -> Option<u32>
+pub(crate) fn lifted(nodes: &[Node], node: u32, count: usize) -> Option<u32>
     ensures { IfSome result (λ upper. (task : Task) (lent : Context) (branch : List Case)
         → IsBranch task lent nodes.now node branch
         → IsBranch task lent nodes.now upper (drop count branch)) }

@@ -4,7 +4,7 @@ use super::running::{CONFIRM, Row, assert_answered, assert_refused};
 use std::test::Fail;
 
 // A problem whose conjecture is told of each element.
-const EACH_ELEMENT: &[u8] = b"fof(a1,axiom,p(c)). fof(g,conjecture,! [X] : p(X)).";
+pub(super) const EACH_ELEMENT: &[u8] = b"fof(a1,axiom,p(c)). fof(g,conjecture,! [X] : p(X)).";
 
 #[test]
 fn a_countermodel_is_confirmed_or_told_why_not(rt: HostRuntime) -> Result<(), Fail> {

@@ -1,10 +1,8 @@
 //! `prove`.
 
 use super::refused::WIDEST;
-use super::running::{CHECK, Row, SEARCH, assert_ends, files_of, sink, times, words_of};
-use crate::run;
-use io_core::MemoryFiles;
-use logic_core::{AnyWorld, Bytes};
+use super::running::{CHECK, Row, SEARCH, assert_ends, files_of, printed, times};
+use logic_core::Bytes;
 use problem_suite::examples::{
     COMPLEMENT_PROBLEM, COMPLEMENT_PROOF, EQUALITY_PROBLEM, FALSEHOOD_PROBLEM, FALSEHOOD_PROOF,
     SAME_NAMES_PROBLEM, SAME_NAMES_PROOF, SHADOWED_PROBLEM, SHADOWED_PROOF, SPLIT_PROBLEM,
@@ -88,20 +86,6 @@ fn assert_sought(rt: &impl Abort, alloc: Global, rows: &[Row]) -> Result<(), Fai
 fn a_smallest_proof_is_printed_or_none(rt: HostRuntime) -> Result<(), Fail> {
     assert_sought(&rt, rt.alloc(), SEARCHES)?;
     assert_sought(&rt, rt.alloc(), MANY_FORMS)
-}
-
-/// What the program puts to the output for these words.
-fn printed(alloc: Global, texts: &[&[u8]], mut files: MemoryFiles) -> Result<Bytes, Fail> {
-    let words = words_of(alloc, texts)?;
-    let (mut out, mut errs) = (sink(alloc)?, sink(alloc)?);
-    let _status = run::<AnyWorld, _, _, _>(
-        alloc,
-        words.as_slice(),
-        &mut files,
-        &mut out,
-        &mut errs,
-    );
-    Ok(Bytes::from_slice(alloc, out.contents())?)
 }
 
 #[test]

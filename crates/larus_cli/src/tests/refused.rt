@@ -1,6 +1,8 @@
 //! What each command refuses.
 
-use super::running::{CHECK, CONFIRM, CONVERT, Row, SEARCH, VERNACULAR, VERSION2, assert_refused};
+use super::running::{
+    CHECK, CONFIRM, CONVERT, REFUTE, Row, SEARCH, VERNACULAR, VERSION2, assert_refused,
+};
 use problem_suite::examples::ONE_AXIOM_PROBLEM as PROBLEM;
 use std::test::Fail;
 
@@ -97,6 +99,7 @@ fn a_refusal_goes_to_the_errors(rt: HostRuntime) -> Result<(), Fail> {
     assert_refused(&rt, rt.alloc(), CHECK, REFUSED_TASKS)?;
     assert_refused(&rt, rt.alloc(), VERNACULAR, REFUSED_TASKS)?;
     assert_refused(&rt, rt.alloc(), SEARCH, REFUSED_TASKS)?;
+    assert_refused(&rt, rt.alloc(), REFUTE, REFUSED_TASKS)?;
     assert_refused(&rt, rt.alloc(), CONFIRM, REFUSED_TASKS)?;
     assert_refused(&rt, rt.alloc(), CHECK, REFUSED_PROOFS)?;
     assert_refused(&rt, rt.alloc(), VERSION2, REFUSED_PROOFS)

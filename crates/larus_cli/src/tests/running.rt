@@ -22,6 +22,8 @@ pub(super) const FROM_ISAR: &[&[u8]] = &[b"convert", b"isar", b"x.p", b"x.v"];
 
 pub(super) const VERSION2: &[&[u8]] = &[b"convert", b"version2", b"x.p", b"x.v"];
 
+pub(super) const REFUTE: &[&[u8]] = &[b"refute", b"x.p", b"2"];
+
 pub(super) const CONFIRM: &[&[u8]] = &[b"confirm", b"x.p", b"x.v"];
 
 pub(super) const SEARCH: &[&[u8]] = &[b"prove", b"x.p", b"0"];
@@ -31,7 +33,7 @@ pub(super) const SEARCH: &[&[u8]] = &[b"prove", b"x.p", b"0"];
 // A problem and a proof, with the status and what is printed.
 pub(super) type Row = (&'static [u8], &'static [u8], u8, &'static [u8]);
 
-pub(super) fn words_of(alloc: Global, texts: &[&[u8]]) -> Result<List<Bytes>, Fail> {
+fn words_of(alloc: Global, texts: &[&[u8]]) -> Result<List<Bytes>, Fail> {
     let mut words = List::new(alloc);
     for text in texts {
         words.push(Bytes::from_slice(alloc, text)?)?;
@@ -123,6 +125,24 @@ pub(super) fn assert_refused(
         assert_ends(rt, alloc, words, files, (*status, b"", text))?;
     }
     Ok(())
+}
+
+/// What the program puts to the output for these words.
+pub(super) fn printed(
+    alloc: Global,
+    texts: &[&[u8]],
+    mut files: MemoryFiles,
+) -> Result<Bytes, Fail> {
+    let words = words_of(alloc, texts)?;
+    let (mut out, mut errs) = (sink(alloc)?, sink(alloc)?);
+    let _status = run::<AnyWorld, _, _, _>(
+        alloc,
+        words.as_slice(),
+        &mut files,
+        &mut out,
+        &mut errs,
+    );
+    Ok(Bytes::from_slice(alloc, out.contents())?)
 }
 
 /// A text, so many times.

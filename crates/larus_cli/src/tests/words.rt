@@ -1,7 +1,8 @@
 //! Words, and texts of reports.
 
 use super::running::{
-    CHECK, CONFIRM, CONVERT, ENGLISH, FROM_ISAR, ISAR, VERNACULAR, VERSION2, assert_ends, command,
+    CHECK, CONFIRM, CONVERT, ENGLISH, FROM_ISAR, ISAR, REFUTE, VERNACULAR, VERSION2, assert_ends,
+    command,
 };
 use crate::{Command, ProofRefusal, ProofWhy, Report, message};
 use io_core::MemoryFiles;
@@ -28,6 +29,7 @@ convert vernacular PROBLEM PROOF
 convert isar PROBLEM ISARTEXT
 demo K
 convert version2 PROBLEM PROOF
+refute PROBLEM SIZE
 confirm PROBLEM MODEL
 ",
         ),
@@ -36,7 +38,7 @@ confirm PROBLEM MODEL
 
 #[test]
 fn words_and_texts(rt: HostRuntime) -> Result<(), Fail> {
-    let rows: [(&[&[u8]], Option<Command>); 15] = [
+    let rows: [(&[&[u8]], Option<Command>); 17] = [
         (CHECK, Some(Command::Check)),
         (CONVERT, Some(Command::ConvertProblem)),
         (ISAR, Some(Command::ExportIsar)),
@@ -50,6 +52,8 @@ fn words_and_texts(rt: HostRuntime) -> Result<(), Fail> {
         (&[b"convert", b"problem", b"x.p", b"x.v"], None),
         (&[b"demo"], None),
         (&[b"demo", b"2", b"2"], None),
+        (REFUTE, Some(Command::Refute(2))),
+        (&[b"refute", b"x.p"], None),
         (CONFIRM, Some(Command::Confirm)),
         (&[b"confirm", b"x.p"], None),
     ];
@@ -81,6 +85,21 @@ fn numbers_are_decimal_and_within_their_bounds(rt: HostRuntime) -> Result<(), Fa
     for (number, sought, shown) in rows {
         assert_eq!(rt; command(rt.alloc(), &[b"prove", b"x.p", number])?, sought);
         assert_eq!(rt; command(rt.alloc(), &[b"demo", number])?, shown);
+    }
+    Ok(())
+}
+
+#[test]
+fn sizes_are_from_1_to_8(rt: HostRuntime) -> Result<(), Fail> {
+    let rows: [(&[u8], Option<Command>); 5] = [
+        (b"0", None),
+        (b"1", Some(Command::Refute(1))),
+        (b"8", Some(Command::Refute(8))),
+        (b"9", None),
+        (b"02", None),
+    ];
+    for (size, sought) in rows {
+        assert_eq!(rt; command(rt.alloc(), &[b"refute", b"x.p", size])?, sought);
     }
     Ok(())
 }

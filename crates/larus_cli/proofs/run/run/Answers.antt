@@ -1,5 +1,5 @@
 use Rattle.logic_core.specs.Truth.{structure}
-use Rattle.larus_cli.proofs.Outcomes.{follows_of, refuted_of, proved_of, none_of, printed_of, rewritten_of, isar_of, exported_of, usage_only, no_command, fetch_rose, unasked_fetch, put_rose, nothing_put, statuses_of}
+use Rattle.larus_cli.proofs.Outcomes.{follows_of, confirmed_of, refuted_of, sized_of, proved_of, none_of, printed_of, rewritten_of, isar_of, exported_of, usage_only, no_command, fetch_rose, unasked_fetch, put_rose, nothing_put, statuses_of}
 use Rattle.larus_cli.proofs.Completing.{complete_of, success_of}
 use Rattle.larus_cli.proofs.run.run.Goals as goal
 
@@ -9,7 +9,13 @@ returns-clause-sound g c k problem proof are done =
     (λ formulas task body. c.proved_task_follows.ensures formulas task body k) c.answer.ensures.outcome problem proof are done
 
 pub returns-clause-refuted : goal.returns-clause-refuted
-returns-clause-refuted g c problem model are done = refuted_of c.countermodels_exclude_proofs.ensures c.answer.ensures.outcome problem model are done
+returns-clause-refuted g c problem size some few are done = refuted_of c.answer.ensures.outcome problem size some few are done
+
+pub returns-clause-none_sized : goal.returns-clause-none_sized
+returns-clause-none_sized g c problem size some few are none = sized_of c.answer.ensures.outcome problem size some few are none
+
+pub returns-clause-confirmed : goal.returns-clause-confirmed
+returns-clause-confirmed g c problem model are done = confirmed_of c.countermodels_exclude_proofs.ensures c.answer.ensures.outcome problem model are done
 
 pub returns-clause-proved : goal.returns-clause-proved
 returns-clause-proved g c problem most few are done = proved_of c.answer.ensures.outcome problem most few are done

@@ -39,6 +39,10 @@ close-returns-clause-hopeless t c = λ task lent is.
     (c.if-not-gather.ensures.all constants task lent n right ok is))
     c.count-first.result c.loop-at.at (let e = c.count-first.ensures in omega (arith, e)) (let e = c.count-end.ensures in let same = ap length c.loop-at.invariant.choices in let low = c.loop-at-test.false in omega (arith, e, same, low)) (c.loop-at.invariant.ruled task lent is)
 
+pub close_goal-returns-then-is_out_of_reach-clause-hopeless :
+    goal.close_goal-returns-then-is_out_of_reach-clause-hopeless
+close_goal-returns-then-is_out_of_reach-clause-hopeless t c = λ task lent is n small h. c.if-is_out_of_reach.ensures task lent n is h
+
 pub close_goal-returns-then-is_standing-clause-hopeless :
     goal.close_goal-returns-then-is_standing-clause-hopeless
 close_goal-returns-then-is_standing-clause-hopeless t c = OnFalse_from c.run.result
@@ -62,6 +66,10 @@ run-returns-in-Some-pop_pair-clause-hopeless t c = OnFalse_from c.take_pair.resu
 pub run-returns-then-is_impossible-clause-hopeless :
     goal.run-returns-then-is_impossible-clause-hopeless
 run-returns-then-is_impossible-clause-hopeless t c = λ task lent is n small h. c.if-is_impossible.ensures task lent n (subst (Hope task lent n) (sym c.in_default-pop_pair.ensures) h)
+
+pub run-returns-then-has_barren-clause-hopeless :
+    goal.run-returns-then-has_barren-clause-hopeless
+run-returns-then-has_barren-clause-hopeless t c = λ task lent is n small h. c.if-has_barren.ensures task lent n is (subst (Hope task lent n) (sym c.in_default-pop_pair.ensures) h)
 
 pub run-returns-else-close_goal-clause-hopeless : goal.run-returns-else-close_goal-clause-hopeless
 run-returns-else-close_goal-clause-hopeless t c = shown _
