@@ -1,7 +1,7 @@
 model 1.
 size 2.
-fact bet(1,0,0).
-fact bet(0,1,1).
+fact bet(0,0,0).
+fact bet(0,0,1).
 fact cong(0,0,0,0).
 fact cong(1,0,0,1).
 fact cong(0,1,1,0).

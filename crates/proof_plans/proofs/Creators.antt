@@ -32,7 +32,7 @@ module _ (fires : List Fire) (values : List ℕ) where
 
 module _ (task : Task) (lent : Context) (fires : List Fire) (run : IsRun task lent fires) where
   -- a new element has one application
-  one_creator : (element i j : ℕ) (fire other : Fire) → slice_get fires i ≡ Some fire → slice_get fires j ≡ Some other → fire.first ≤ element → element < fire.first + fire.form.existentials
+  pub one_creator : (element i j : ℕ) (fire other : Fire) → slice_get fires i ≡ Some fire → slice_get fires j ≡ Some other → fire.first ≤ element → element < fire.first + fire.form.existentials
       → other.first ≤ element → element < other.first + other.form.existentials → i ≡ j
   one_creator element i j fire other i_is j_is a b c d = elim (cases_lt i j) [
     | inl less ↦ absurd (let apart = run.apart i j fire other less i_is j_is in omega arith)

@@ -12,8 +12,7 @@ use Rattle.logic_core.specs.declared.form.Slot.TheVariants.{Variable, Constant}
 use Rattle.logic_core.specs.declared.form.Atom.{Atom}
 use Rattle.logic_core.specs.declared.form.Form.{Form}
 use Rattle.vernacular_tree.specs.Carries.{image}
-use Rattle.vernacular_tree.specs.Contexts.{Task, counted, slot_at, atom_at}
-use Rattle.vernacular_tree.specs.declared.context.Context.{Context}
+use Rattle.vernacular_tree.specs.Contexts.{counted, slot_at, atom_at}
 use Rattle.vernacular_tree.proofs.Numbers.{counted_length}
 use Rattle.vernacular_tree.proofs.Images.{atom_at_image}
 use Rattle.proof_plans.specs.declared.draft.GoalOf.TheVariants as goal_of
@@ -23,11 +22,8 @@ use Rattle.proof_plans.specs.declared.reach.Reached.{Reached}
 use Rattle.proof_plans.specs.declared.scene.Scene.{Scene}
 use Rattle.proof_plans.specs.Runs.{Fire, elements_of, lists_of, Has}
 use Rattle.proof_plans.specs.Barren.{IsBarren}
-use Rattle.proof_plans.specs.Plans.{variables_of, Goal}
-use Rattle.proof_plans.specs.Embeds.{GoalIs}
-use Rattle.proof_plans.specs.Drafts.{Drafted, AreAtomsOf, IsStep, IsGoal, form_variables, with_goal}
-use Rattle.proof_plans.specs.Hopes.{Hope}
-use Rattle.proof_plans.specs.Scenes.{IsScene}
+use Rattle.proof_plans.specs.Plans.{variables_of}
+use Rattle.proof_plans.specs.Drafts.{Drafted, AreAtomsOf, IsStep, form_variables}
 use Rattle.proof_plans.specs.Idle.{Repeats, IsIdle}
 use Rattle.proof_plans.specs.Signs.{MayDiffer, Differ, IsReached, IsUnmet}
 use Rattle.proof_plans.proofs.Grown.{constants_fixed}

@@ -16,7 +16,7 @@ use Rattle.vernacular_tree.specs.declared.context.Line.{Line}
 use Rattle.vernacular_tree.specs.declared.context.Line.TheVariants.{Facts, Cases, Falsum}
 use Rattle.vernacular_tree.specs.declared.context.Context.{Context}
 use Rattle.vernacular_tree.specs.declared.tree.End.{End, As, Efq, Cs', Row_of-Body, end_of-Body, more_of-Body}
-use Rattle.proof_plans.specs.Runs.{Case, Above, Fire, elements_of, lists_of, IsSeen, IsRun, MaySplit, IsClosed, AreClosed, all_given, end_count, end_counts}
+use Rattle.proof_plans.specs.Runs.{Case, Above, Fire, elements_of, lists_of, IsSeen, IsFresh, IsRun, MaySplit, IsClosed, AreClosed, all_given, end_count, end_counts}
 use Rattle.proof_plans.specs.Plans.{Step, variables_of, Plan}
 use Rattle.proof_plans.specs.Embeds.{branch_image, HasVariables, StepIs, IsOver, BranchesAre, Embeds, ends_in}
 use Rattle.proof_plans.specs.Moves.{lists_in, branches_for, next_step, grown, answered, split, with_branches}
@@ -52,17 +52,17 @@ module _ (task : Task) (context : Context) (fires : List Fire) (values : List �
       × HasVariables (length values) branch × IsClosed task context fires end (branch_image values branch)
   branches_split [] branch [] h = absurd h
   branches_split [] branch (end ∷ []) h = ([], end, refl, tt, h.0, h.1)
-  branches_split [] branch (end ∷ more ∷ left) h = absurd h.2
+  branches_split [] branch (end ∷ more ∷ left) h = absurd h.3
   branches_split (b ∷ rest) branch [] h = absurd h
   branches_split (b ∷ rest) branch (end ∷ left) h =
-      let found = branches_split rest branch left h.2 in (end ∷ found.0, found.1, ap (λ (l : List End). end ∷ l) found.2, (h.0, h.1, found.3), found.4, found.5)
+      let found = branches_split rest branch left h.3 in (end ∷ found.0, found.1, ap (λ (l : List End). end ∷ l) found.2, (h.0, h.1, h.2, found.3), found.4, found.5)
 
   branches_append : (a b : List (List Case)) (ends more : List End) → BranchesAre task context fires values a ends → BranchesAre task context fires values b more
       → BranchesAre task context fires values (a ++ b) (ends ++ more)
   branches_append [] b [] more h k = k
   branches_append [] b (end ∷ ends) more h k = absurd h
   branches_append (x ∷ a) b [] more h k = absurd h
-  branches_append (x ∷ a) b (end ∷ ends) more h k = (h.0, h.1, branches_append a b ends more h.2 k)
+  branches_append (x ∷ a) b (end ∷ ends) more h k = (h.0, h.1, h.2, branches_append a b ends more h.3 k)
 
   -- the branches of a split are closed by its ends
   children_are : {n : _} (row : Row_of-Body n) (number : ℕ) (lists : List (List Atom)) (images : List (List Atom)) (branch : List Case) → map (map (image values)) lists ≡ images
@@ -76,8 +76,9 @@ module _ (task : Task) (context : Context) (fires : List Fire) (values : List �
       let first : map (image values) l ≡ h.0 = cc in
       let others : map (map (image values)) lists ≡ h.1 = cc in (
         (have.0, within),
-        subst (λ (fs : List Atom). IsClosed task context fires end (record { number = number; facts = fs } ∷ branch_image values branch)) (sym first) h.3,
-        children_are rest (number + 1) lists h.1 branch others have.1 within h.4,
+        subst (λ (fs : List Atom). IsClosed task context fires end (record { number = number; facts = fs } ∷ branch_image values branch)) (sym first) h.4,
+        (λ inner. subst (λ (fs : List Atom). IsFresh fires fs (branch_image values branch)) (sym first) h.3),
+        children_are rest (number + 1) lists h.1 branch others have.1 within h.5,
       )
 
   -- a branch that is split, where the others stay open

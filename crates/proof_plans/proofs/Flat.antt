@@ -1,5 +1,6 @@
--- Each proof from a context is a run: its applications in one list, with elements that have one
--- number in the whole proof.
+-- Each proof from a context than which none is smaller is a run: its applications in one list, with
+-- elements that have one number in the whole proof. No application of it is barren, and each case of
+-- it says something new, since without them the proof would be smaller.
 use Rattle.std.proofs.Common.{◌≡◌, ℕ, zero, suc, ◌+◌, ◌-◌, ◌<◌, ◌≤◌, max, ◌⊎◌, inl, inr, ⊎_elim, List, [], ◌∷◌, ◌++◌, map, length, slice_get, slice_index, Some, refl, ap, sym, ◌∙◌, subst, append_assoc, append-nil, arith, length-append}
 use Rattle.std.proofs.lemmas.List.{map-append, get_or_append_left, length-map}
 use Rattle.std.specs.List.{AllByRecursion}
@@ -7,20 +8,28 @@ use Rattle.logic_core.specs.Forms.{IsWellFormed, AtomIsBelow}
 use Rattle.logic_core.specs.declared.form.Atom.{Atom}
 use Rattle.logic_core.specs.declared.form.Form.{Form}
 use Rattle.vernacular_tree.specs.Contexts.{Task, counted, parameters, atom_at, line_of, LineHas, Stands, with_facts, after_mp}
-use Rattle.vernacular_tree.specs.Rules.{IsInstance, IsAnswer, StepsThen, Closes, EachProves}
-use Rattle.vernacular_tree.specs.Sizes.{sizes, end_size}
+use Rattle.vernacular_tree.specs.Rules.{IsInstance, IsAnswer, StepsThen, Closes, EachProves, IsProof}
+use Rattle.vernacular_tree.specs.Sizes.{size, sizes, end_size}
 use Rattle.vernacular_tree.specs.Tasks.{IsTask}
-use Rattle.vernacular_tree.specs.Carries.{image, HasElements}
+use Rattle.vernacular_tree.specs.Carries.{image, HasElements, ImagesStand}
+use Rattle.vernacular_tree.specs.Witnessed.{LineIsBelow, IsContext, Witnessed}
 use Rattle.vernacular_tree.specs.declared.context.Line.{Line}
 use Rattle.vernacular_tree.specs.declared.context.Line.TheVariants.{Facts, Cases, Falsum}
 use Rattle.vernacular_tree.specs.declared.context.Context.{Context}
 use Rattle.vernacular_tree.specs.declared.tree.Mp.{Mp}
+use Rattle.vernacular_tree.specs.declared.tree.Body.{Body}
 use Rattle.vernacular_tree.specs.declared.tree.End.{End, As, Efq, Cs', Row_of-Body, end_of-Body, more_of-Body}
-use Rattle.proof_plans.specs.Runs.{Case, Above, Fire, elements_of, lists_of, IsSeen, Has, IsKnown, IsRight, IsRun, MaySplit, IsAnswered, IsClosed, AreClosed, root_of, end_count, end_counts}
-use Rattle.text_core.proofs.Laws.{each_map, each_append, each_index, each_get, each_both, each_mapped, some_with, get_behind, each_image_is_among}
+use Rattle.proof_plans.specs.Runs.{Case, Above, Fire, elements_of, lists_of, IsSeen, IsMade, Has, IsFresh, IsKnown, IsRight, IsRun, MaySplit, IsAnswered, IsClosed, AreClosed, root_of, end_count, end_counts}
+use Rattle.proof_plans.specs.Barren.{IsBarren, IsTight}
+use Rattle.text_core.specs.Lists.{SomeOf, IsAmong}
+use Rattle.text_core.proofs.Laws.{each_map, each_append, each_index, each_get, each_both, each_mapped, some_with, get_behind, each_image_is_among, each_member, some_front, some_back}
 use Rattle.vernacular_tree.proofs.Numbers.{counted_length, counted_below, both_read, below_greater}
-use Rattle.vernacular_tree.proofs.Images.{keeps_more, elements_kept, image_same, atom_at_within, atom_at_image, lists_at_image}
-use Rattle.proof_plans.proofs.Seen.{above_same, above_on, above_case, has_grows, known_grows, split_grows, right_grows, closed_grows}
+use Rattle.vernacular_tree.proofs.Images.{keeps_self, keeps_more, standing_facts_carry, elements_kept, image_same, atom_at_within, atom_at_image, lists_at_image}
+use Rattle.proof_plans.proofs.Seen.{above_same, above_on, above_case, has_grows, known_grows, split_grows, right_grows, closed_grows, NoneAbove, AreAside, has_front, has_back}
+use Rattle.vernacular_tree.proofs.Kept.{after_is_context, carries_self, witnessed_carries}
+use Rattle.vernacular_tree.proofs.Carrying.{proof_carries}
+use Rattle.proof_plans.proofs.Guide.{among_map, one_list}
+use Rattle.proof_plans.proofs.Least.{NoneSmaller, Rises, counted_rises, rises_append, Found, all_stand, each_unmapped, image_itself}
 
 -- what has a number in a list with one more behind it
 snoc_get : {X : Type 0} (xs : List X) (x y : X) (i : ℕ) → slice_get (xs ++ x ∷ []) i ≡ Some y → (slice_get xs i ≡ Some y) ⊎ ((i ≡ length xs) × (x ≡ y))
@@ -30,10 +39,39 @@ snoc_get (z ∷ zs) x y zero e = inl e
 snoc_get (z ∷ zs) x y (suc i) e = ⊎_elim (λ l. inl l) (λ r. inr (let n : i ≡ length zs = r.0 in omega arith, r.1)) (snoc_get zs x y i e)
 
 -- a number of an item is below the length
-get_below : {X : Type 0} (xs : List X) (x : X) (i : ℕ) → slice_get xs i ≡ Some x → i < length xs
+pub get_below : {X : Type 0} (xs : List X) (x : X) (i : ℕ) → slice_get xs i ≡ Some x → i < length xs
 get_below [] x i e = absurd (cc)
 get_below (y ∷ ys) x zero e = omega arith
 get_below (y ∷ ys) x (suc i) e = let low = get_below ys x i e in omega arith
+
+-- a branch does not lead on to itself
+never_below : (branch more : List Case) (case : Case) → branch ≡ more ++ case ∷ branch → ⊥
+never_below branch more case is = let long = ap length is in let total = length-append more (case ∷ branch) in omega (arith, long, total)
+
+-- a branch to which another one leads does not lead to that one
+below_not_above : (branch word more : List Case) (case : Case) → word ≡ more ++ case ∷ branch → Above word branch → ⊥
+below_not_above branch word more case is above =
+    let long = ap length is in let total = length-append more (case ∷ branch) in
+    let other = ap length above.1 in let sum = length-append above.0 word in omega (arith, long, total, other, sum)
+
+-- one branch has one case behind another one
+same_case : (branch a b : List Case) (x y : Case) → a ++ x ∷ branch ≡ b ++ y ∷ branch → x ≡ y
+same_case branch [] [] x y is = cc
+same_case branch [] (z ∷ b) x y is = absurd (never_below branch b y (let rest : branch ≡ b ++ y ∷ branch = cc in rest))
+same_case branch (z ∷ a) [] x y is = absurd (never_below branch a x (let rest : a ++ x ∷ branch ≡ branch = cc in sym rest))
+same_case branch (z ∷ a) (w ∷ b) x y is = same_case branch a b x y (let rest : a ++ x ∷ branch ≡ b ++ y ∷ branch = cc in rest)
+
+-- no application stands in a branch to which this one leads
+abbrev pub NoneBelow : List Case → List Fire → Type 0
+NoneBelow branch fires = AllByRecursion (λ fire. (more : List Case) (case : Case) → fire.branch ≡ more ++ case ∷ branch → ⊥) fires
+
+-- no application stands in a case of a branch that has this number or a greater one
+abbrev NoneFrom : ℕ → List Case → List Fire → Type 0
+NoneFrom number branch fires = AllByRecursion (λ fire. (more : List Case) (case : Case) → number ≤ case.number → fire.branch ≡ more ++ case ∷ branch → ⊥) fires
+
+-- a branch is one in a case of another one that has this number or a greater one
+abbrev IsIn : ℕ → List Case → List Case → Type 0
+IsIn number branch word = (more : List Case) × (case : Case) × (number ≤ case.number) × (word ≡ more ++ case ∷ branch)
 
 module _ (constants : ℕ) (task : Task) (right : IsTask constants task) (from : Context) (start : task.start ≤ from.elements) where
   -- how a line of the context of a body is found again among the applications
@@ -52,12 +90,16 @@ module _ (constants : ℕ) (task : Task) (right : IsTask constants task) (from :
     pub known : AllByRecursion (λ x. IsKnown from.elements fires (length fires) x branch) e
     pub lines : AllByRecursion (LineIs fires branch e) c.lines
     pub rooted : Above (root_of from) branch
+    pub ok : IsContext task c
+    pub rises : Rises 0 e
+    pub found : (fact : Atom) → Has fires fact (length fires) branch → Found c e fact
 
   -- applications in order, whose new elements are below a number
   pub record Front (fires : List Fire) (next : ℕ) : Type 0 where
     pub run : IsRun task from fires
     pub low : from.elements ≤ next
     pub ends : (i : ℕ) (fire : Fire) → slice_get fires i ≡ Some fire → fire.first + fire.form.existentials ≤ next
+    pub tight : IsTight fires
 
   -- a line is still found where more applications follow, more elements are there, and in a branch
   -- below
@@ -88,8 +130,8 @@ module _ (constants : ℕ) (task : Task) (right : IsTask constants task) (from :
 
   -- the context of a body, where more applications follow, or in a branch below
   stage_grows : (fires more : List Fire) (branch below : List Case) (c : Context) (e : List ℕ) → Above branch below
-      → Stage fires branch c e → Stage (fires ++ more) below c e
-  stage_grows fires more branch below c e down h =
+      → Stage fires branch c e → ((fact : Atom) → Has (fires ++ more) fact (length (fires ++ more)) below → Found c e fact) → Stage (fires ++ more) below c e
+  stage_grows fires more branch below c e down h found =
       let long = length-append fires more in record {
         length_is = h.length_is;
         itself = h.itself;
@@ -97,6 +139,9 @@ module _ (constants : ℕ) (task : Task) (right : IsTask constants task) (from :
         lines = subst (λ (es : List ℕ). AllByRecursion (LineIs (fires ++ more) below es) c.lines) (append-nil e)
             (each_map (line_grows fires more branch below e [] down) c.lines h.lines);
         rooted = above_on (root_of from) branch below h.rooted down;
+        ok = h.ok;
+        rises = h.rises;
+        found = found;
       }
 
   -- a fact that stands in the context stands among the applications at its image
@@ -157,9 +202,9 @@ module _ (constants : ℕ) (task : Task) (right : IsTask constants task) (from :
       new = front.low;
     }
 
-    -- all applications with the new one are a run
-    front_after : Front (fires ++ fire ∷ []) (next + form.existentials)
-    front_after = record {
+    -- all applications with the new one are a run, if that makes something new
+    front_after : (IsBarren (fires ++ fire ∷ []) (length fires) fire → ⊥) → Front (fires ++ fire ∷ []) (next + form.existentials)
+    front_after needed = record {
       run = record {
         right = λ index other is. ⊎_elim
             (λ old. right_grows task from fires (fire ∷ []) index other (front.run.right index other old))
@@ -173,6 +218,15 @@ module _ (constants : ℕ) (task : Task) (right : IsTask constants task) (from :
       low = let l = front.low in omega arith;
       ends = λ i other is. ⊎_elim (λ old. let end = front.ends i other old in omega arith)
           (λ new. let same : fire ≡ other = new.1 in subst (λ (f : Fire). f.first + f.form.existentials ≤ next + form.existentials) same (omega arith)) (snoc_get fires fire other i is);
+      tight = λ index other is barren. ⊎_elim
+          (λ old. front.tight index other old (let low = get_below fires other index old in record {
+            facts = barren.facts;
+            one = barren.one;
+            none = barren.none;
+            stand = each_map (λ fact has. has_front fires (fire ∷ []) fact index other.branch (omega arith) has) barren.facts barren.stand;
+          }))
+          (λ new. needed (subst (λ (f : Fire). IsBarren (fires ++ fire ∷ []) (length fires) f) (sym new.1) (subst (λ (n : ℕ). IsBarren (fires ++ fire ∷ []) n other) new.0 barren)))
+          (snoc_get fires fire other index is);
     }
       where
         apart_by : (i j : ℕ) (other later : Fire) → i < j → (slice_get fires i ≡ Some other) ⊎ ((i ≡ length fires) × (fire ≡ other))
@@ -263,6 +317,80 @@ module _ (constants : ℕ) (task : Task) (right : IsTask constants task) (from :
               (let same : next + (j + 1) ≡ next + j + 1 = omega arith in same) (new_known k (j + 1) (omega arith)),
         )
 
+    -- elements are below the next new one
+    e_low : AllByRecursion (λ x. x < next) e
+    e_low = each_map below_next e stage.known
+      where
+        below_next : (x : ℕ) → IsKnown from.elements fires (length fires) x branch → x < next
+        below_next x (inl low) = let l = front.low in let b : x < from.elements = low in omega arith
+        below_next x (inr new) = let a = new.below in let b = front.ends new.index new.seen.fire new.seen.is in omega arith
+
+    -- the elements after the step rise
+    after_rises : Rises 0 after_e
+    after_rises = rises_append 0 next e (counted next form.existentials) (omega arith) stage.rises e_low (counted_rises next form.existentials)
+
+    -- a fact that was found in the context is found in the one after the step
+    old_found : (fact : Atom) → Found c e fact → Found (after_mp c form step.args) after_e fact
+    old_found fact f = record {
+      original = f.original;
+      within = elements_kept e after_e (keeps_more e (counted next form.existentials)) f.original f.within;
+      stands = some_front (LineHas f.original) c.lines (line_of line_lists ∷ []) f.stands;
+      same = image_same e after_e (keeps_more e (counted next form.existentials)) f.original f.within ∙ f.same;
+    }
+
+    -- what stands after the step is found in the context after it
+    after_found : (fact : Atom) → Has (fires ++ fire ∷ []) fact (length (fires ++ fire ∷ [])) branch → Found (after_mp c form step.args) after_e fact
+    after_found fact (inl given) = old_found fact (stage.found fact (inl given))
+    after_found fact (inr made) = ⊎_elim
+        (λ old. old_found fact (stage.found fact (inr (record {
+          index = made.index;
+          before = get_below fires made.seen.fire made.index old;
+          seen = record { fire = made.seen.fire; is = old; above = made.seen.above };
+          facts = made.facts;
+          one = made.one;
+          among = made.among;
+        }))))
+        (λ new. by_new (subst (λ (f : Fire). lists_of f ≡ made.facts ∷ []) (sym new.1) made.one))
+        (snoc_get fires fire made.seen.fire made.index made.seen.is)
+      where
+        by_new : lists_of fire ≡ made.facts ∷ [] → Found (after_mp c form step.args) after_e fact
+        by_new one =
+            let list = one_list (image after_e) line_lists made.facts (line_image ∙ one) in
+            let member = among_map (image after_e) list.0 fact (subst (IsAmong fact) (sym list.2) made.among) in record {
+              original = member.0;
+              within = each_member (HasElements (length after_e)) list.0 (subst (AllByRecursion (AllByRecursion (HasElements (length after_e)))) list.1 line_within).0 member.0 member.1;
+              stands = some_back (LineHas member.0) c.lines (line_of line_lists ∷ []) (inl (subst (λ (ls : List (List Atom)). LineHas member.0 (line_of ls)) (sym list.1) member.1));
+              same = member.2;
+            }
+
+    -- where no proof is smaller, the step makes something new: without it there would be one
+    step_needed : (steps : List Mp) (end : End) → NoneSmaller task c (length (step ∷ steps) + end_size end) → StepsThen task steps (Closes task end) (after_mp c form step.args)
+        → IsBarren (fires ++ fire ∷ []) (length fires) fire → ⊥
+    step_needed steps end best rest barren =
+        let list = one_list (atom_at (elements_of fire)) form.disjuncts barren.facts barren.one in
+        let facts : List Atom = map (atom_at line_elements) list.0 in
+        let whole : map (map (image after_e)) line_lists ≡ barren.facts ∷ [] = line_image ∙ barren.one in
+        let only : map (image after_e) facts ∷ [] ≡ barren.facts ∷ []
+        = subst (λ (ls : List (List Atom)). map (map (image after_e)) (map (map (atom_at line_elements)) ls) ≡ barren.facts ∷ []) list.1 whole in
+        let same : map (image after_e) facts ≡ barren.facts = cc in
+        let found : AllByRecursion (Found c e) barren.facts
+        = each_map (λ fact has. stage.found fact (has_front fires (fire ∷ []) fact (length fires) branch (omega arith) has)) barren.facts barren.stand in
+        let within : AllByRecursion (AllByRecursion (HasElements (length after_e))) (facts ∷ [])
+        = subst (λ (ls : List (List Atom)). AllByRecursion (AllByRecursion (HasElements (length after_e))) (map (map (atom_at line_elements)) ls)) list.1 line_within in
+        let stand : AllByRecursion (Stands c) facts
+        = all_stand c e after_e (keeps_more e (counted next form.existentials)) after_rises facts within.0 (subst (AllByRecursion (Found c e)) (sym same) found) in
+        let at : AllByRecursion (λ atom. Stands c (atom_at (step.args ++ []) atom)) list.0
+        = subst (λ (n : ℕ). AllByRecursion (λ atom. Stands c (atom_at (step.args ++ counted c.elements n) atom)) list.0) barren.none (each_unmapped (Stands c) (atom_at line_elements) list.0 stand) in
+        let witnessed : Witnessed c form step.args = record {
+          witnesses = [];
+          known = record { length_is = sym barren.none; known = tt };
+          stand = subst (SomeOf (AllByRecursion (λ atom. Stands c (atom_at (step.args ++ []) atom)))) (sym list.1) (inl at);
+        } in
+        let carried = witnessed_carries constants task right c stage.ok form step.args formed inst witnessed in
+        let other = proof_carries constants task right (counted 0 c.elements ++ []) (after_mp c form step.args) c (record { steps = steps; end = end }) carried rest in
+        let small : size other.body ≤ length steps + end_size end = other.small in
+        best other.body other.proves (omega arith)
+
     -- the context after the step
     stage_after : Stage (fires ++ fire ∷ []) branch (after_mp c form step.args) after_e
     stage_after =
@@ -282,6 +410,9 @@ module _ (constants : ℕ) (task : Task) (right : IsTask constants task) (from :
               (each_map (line_grows fires (fire ∷ []) branch branch e (counted next form.existentials) (above_same branch)) c.lines stage.lines)
               (new_line line_lists line_within line_image, tt);
           rooted = stage.rooted;
+          ok = after_is_context constants task right c form step.args stage.ok formed inst;
+          rises = after_rises;
+          found = after_found;
         }
 
   -- an end, behind applications
@@ -291,6 +422,7 @@ module _ (constants : ℕ) (task : Task) (right : IsTask constants task) (from :
     pub front : Front (fires ++ more) next
     pub closed : IsClosed task from (fires ++ more) end branch
     pub counts : length more + end_count end ≡ count
+    pub inside : AllByRecursion (λ fire. Above branch fire.branch) more
 
   -- the branches of a split, behind applications
   record RowIs {n : _} (fires : List Fire) (branch : List Case) (row : Row_of-Body n) (number : ℕ) (lists : List (List Atom)) (count : ℕ) : Type 0 where
@@ -299,26 +431,35 @@ module _ (constants : ℕ) (task : Task) (right : IsTask constants task) (from :
     front : Front (fires ++ more) next
     closed : AreClosed task from (fires ++ more) row number lists branch
     counts : length more + end_counts row ≡ count
+    inside : AllByRecursion (λ fire. IsIn number branch fire.branch) more
 
   -- steps, behind which there is an end
-  pub steps_flat : (steps : List Mp) (end : End) (P : Context → Type 0) (count : ℕ) (branch : List Case)
-      → ((fires : List Fire) (next : ℕ) (c : Context) (e : List ℕ) → Front fires next → Stage fires branch c e → P c → EndIs fires branch end count)
-      → (fires : List Fire) (next : ℕ) (c : Context) (e : List ℕ) → Front fires next → Stage fires branch c e → StepsThen task steps P c
-      → EndIs fires branch end (length steps + count)
-  steps_flat [] end P count branch go fires next c e front stage h =
-      subst (λ (n : ℕ). EndIs fires branch end n) (let same : count ≡ 0 + count = omega arith in same) (go fires next c e front stage h)
-  steps_flat (step ∷ steps) end P count branch go fires next c e front stage h =
+  pub steps_flat : (steps : List Mp) (end : End) (branch : List Case)
+      → ((fires : List Fire) (next : ℕ) (c : Context) (e : List ℕ) → Front fires next → Stage fires branch c e → NoneBelow branch fires → NoneSmaller task c (end_size end)
+      → Closes task end c → EndIs fires branch end (end_size end))
+      → (fires : List Fire) (next : ℕ) (c : Context) (e : List ℕ) → Front fires next → Stage fires branch c e → NoneBelow branch fires → NoneSmaller task c (length steps + end_size end)
+      → StepsThen task steps (Closes task end) c → EndIs fires branch end (length steps + end_size end)
+  steps_flat [] end branch go fires next c e front stage free best h =
+      let same : end_size end ≡ 0 + end_size end = omega arith in
+      subst (λ (n : ℕ). EndIs fires branch end n) same (go fires next c e front stage free (subst (NoneSmaller task c) (sym same) best) h)
+  steps_flat (step ∷ steps) end branch go fires next c e front stage free best h =
       let f : Fire = fire fires next branch c e front stage step h.0 h.1 h.2 in
-      let rest = steps_flat steps end P count branch go (fires ++ f ∷ []) (next + h.0.existentials) (after_mp c h.0 step.args) (e ++ counted next h.0.existentials)
-      (front_after fires next branch c e front stage step h.0 h.1 h.2) (stage_after fires next branch c e front stage step h.0 h.1 h.2) h.3 in
+      let rest = steps_flat steps end branch go (fires ++ f ∷ []) (next + h.0.existentials) (after_mp c h.0 step.args) (e ++ counted next h.0.existentials)
+      (front_after fires next branch c e front stage step h.0 h.1 h.2 (step_needed fires next branch c e front stage step h.0 h.1 h.2 steps end best h.3))
+      (stage_after fires next branch c e front stage step h.0 h.1 h.2)
+      (each_append (λ fire. (more : List Case) (case : Case) → fire.branch ≡ more ++ case ∷ branch → ⊥) fires (f ∷ []) free ((λ more case is. never_below branch more case is), tt))
+      (λ body proves less. let l : length body.steps + end_size body.end < length steps + end_size end = less in
+      best (record { steps = step ∷ body.steps; end = body.end }) (h.0, h.1, h.2, proves)
+      (let total : suc (length body.steps) + end_size body.end < suc (length steps) + end_size end = omega arith in total)) h.3 in
       let same : (fires ++ f ∷ []) ++ rest.more ≡ fires ++ f ∷ rest.more = append_assoc fires (f ∷ []) rest.more in
-      let counts : length rest.more + end_count end ≡ length steps + count = rest.counts in
+      let counts : length rest.more + end_count end ≡ length steps + end_size end = rest.counts in
       record {
         more = f ∷ rest.more;
         next = rest.next;
         front = subst (λ (fs : List Fire). Front fs rest.next) same rest.front;
         closed = subst (λ (fs : List Fire). IsClosed task from fs end branch) same rest.closed;
         counts = omega arith;
+        inside = (above_same branch, rest.inside);
       }
 
   -- the parameters stand for themselves
@@ -362,43 +503,106 @@ module _ (constants : ℕ) (task : Task) (right : IsTask constants task) (from :
   front_same : (fires : List Fire) (next : ℕ) → Front fires next → Front (fires ++ []) next
   front_same fires next front = subst (λ (fs : List Fire). Front fs next) (sym (append-nil fires)) front
 
-  -- a case of a split has its facts
+  -- a case of a split has its facts, where no application stands in it yet
   case_stage : (fires : List Fire) (branch : List Case) (c : Context) (e : List ℕ) → Stage fires branch c e → (number : ℕ) (facts : List Atom) → AllByRecursion (HasElements (length e)) facts
-      → Stage fires (record { number = number; facts = map (image e) facts } ∷ branch) (with_facts c facts) e
-  case_stage fires branch c e stage number facts within =
-      let case : Case = record { number = number; facts = map (image e) facts } in
-      let down = subst (λ (fs : List Fire). Stage fs (case ∷ branch) c e) (append-nil fires) (stage_grows fires [] branch (case ∷ branch) c e (above_case case branch) stage) in
-      record {
-        length_is = stage.length_is;
-        itself = stage.itself;
-        known = down.known;
-        lines = each_append (LineIs fires (case ∷ branch) e) c.lines (Facts facts ∷ []) down.lines
-            ((within, each_map (λ fact among. inl (inl among)) facts (each_image_is_among (image e) facts)), tt);
-        rooted = down.rooted;
+      → NoneFrom number branch fires → Stage fires (record { number = number; facts = map (image e) facts } ∷ branch) (with_facts c facts) e
+  case_stage fires branch c e stage number facts within free = record {
+    length_is = stage.length_is;
+    itself = stage.itself;
+    known = subst (λ (fs : List Fire). AllByRecursion (λ x. IsKnown from.elements fs (length fs) x (case ∷ branch)) e) (append-nil fires)
+        (each_map (λ x k. known_grows from.elements fires [] (length fires) (length (fires ++ [])) x branch (case ∷ branch) (let long = length-append fires [] in omega arith) (above_case case branch) k)
+        e stage.known);
+    lines = each_append (LineIs fires (case ∷ branch) e) c.lines (Facts facts ∷ [])
+        (subst (λ (fs : List Fire). AllByRecursion (LineIs fs (case ∷ branch) e) c.lines) (append-nil fires)
+        (subst (λ (es : List ℕ). AllByRecursion (LineIs (fires ++ []) (case ∷ branch) es) c.lines) (append-nil e)
+        (each_map (line_grows fires [] branch (case ∷ branch) e [] (above_case case branch)) c.lines stage.lines)))
+        ((within, each_map (λ fact among. inl (inl among)) facts (each_image_is_among (image e) facts)), tt);
+    rooted = above_on (root_of from) branch (case ∷ branch) stage.rooted (above_case case branch);
+    ok = record {
+      start = stage.ok.start;
+      lines = each_append (LineIsBelow c.elements) c.lines (Facts facts ∷ []) stage.ok.lines (subst (λ (n : ℕ). AllByRecursion (HasElements n) facts) stage.length_is within, tt);
+    };
+    rises = stage.rises;
+    found = found;
+  }
+    where
+      case : Case
+      case = record { number = number; facts = map (image e) facts }
+
+      old_case : (fact : Atom) → Found c e fact → Found (with_facts c facts) e fact
+      old_case fact f = record {
+        original = f.original;
+        within = f.within;
+        stands = some_front (LineHas f.original) c.lines (Facts facts ∷ []) f.stands;
+        same = f.same;
       }
+
+      found_made : (fact : Atom) (made : IsMade fires fact (length fires) (case ∷ branch)) (more : List Case) → case ∷ branch ≡ more ++ made.seen.fire.branch → Found (with_facts c facts) e fact
+      found_made fact made [] is =
+          absurd (each_get (λ fire. (more : List Case) (case : Case) → number ≤ case.number → fire.branch ≡ more ++ case ∷ branch → ⊥) fires made.index made.seen.fire free made.seen.is [] case (omega arith) (sym is))
+      found_made fact made (x ∷ more) is = old_case fact (stage.found fact (inr (record {
+        index = made.index;
+        before = made.before;
+        seen = record { fire = made.seen.fire; is = made.seen.is; above = (more, (let rest : branch ≡ more ++ made.seen.fire.branch = cc in rest)) };
+        facts = made.facts;
+        one = made.one;
+        among = made.among;
+      })))
+
+      found : (fact : Atom) → Has fires fact (length fires) (case ∷ branch) → Found (with_facts c facts) e fact
+      found fact (inl (inl among)) =
+          let member = among_map (image e) facts fact among in record {
+            original = member.0;
+            within = each_member (HasElements (length e)) facts within member.0 member.1;
+            stands = some_back (LineHas member.0) c.lines (Facts facts ∷ []) (inl member.1);
+            same = member.2;
+          }
+      found fact (inl (inr given)) = old_case fact (stage.found fact (inl given))
+      found fact (inr made) = found_made fact made made.seen.above.0 made.seen.above.1
+
+  -- where no proof is smaller, a case says something new: without the split there would be one
+  case_needed : (fires more : List Fire) (branch : List Case) (c : Context) (e : List ℕ) → Stage fires branch c e → NoneAbove branch more → (count : ℕ) → NoneSmaller task c count
+      → (steps : List Mp) (end : End) (facts : List Atom) → AllByRecursion (HasElements (length e)) facts → StepsThen task steps (Closes task end) (with_facts c facts)
+      → length steps + end_size end < count → IsFresh (fires ++ more) (map (image e) facts) branch
+  case_needed fires more branch c e stage none count best steps end facts within rest few stand =
+      let found : AllByRecursion (Found c e) (map (image e) facts)
+      = each_map (λ fact has. stage.found fact (has_back fires more fact (length (fires ++ more)) branch none has)) (map (image e) facts) stand in
+      let there : AllByRecursion (Stands c) facts = all_stand c e e (keeps_self e) stage.rises facts within found in
+      let low : AllByRecursion (HasElements c.elements) facts = subst (λ (n : ℕ). AllByRecursion (HasElements n) facts) stage.length_is within in
+      let images : ImagesStand (counted 0 c.elements) c facts
+      = each_both {R = λ fact. Stands c (image (counted 0 c.elements) fact)} (λ fact has stands. subst (Stands c) (sym (image_itself c.elements fact has)) stands) facts low there in
+      let carried = standing_facts_carry constants task right (counted 0 c.elements) c c (carries_self task c stage.ok) facts
+      (subst (λ (n : ℕ). AllByRecursion (HasElements n) facts) (sym (counted_length 0 c.elements)) low) images in
+      let other = proof_carries constants task right (counted 0 c.elements) (with_facts c facts) c (record { steps = steps; end = end }) carried rest in
+      let small : size other.body ≤ length steps + end_size end = other.small in
+      best other.body other.proves (omega arith)
 
   mutual
     -- an end that closes the context closes the branch
-    pub end_flat : (end : End) (branch : List Case) (fires : List Fire) (next : ℕ) (c : Context) (e : List ℕ) → Front fires next → Stage fires branch c e → Closes task end c
-        → EndIs fires branch end (end_size end)
-    end_flat (As disjunct args) branch fires next c e front stage h = record {
+    pub end_flat : (end : End) (branch : List Case) (fires : List Fire) (next : ℕ) (c : Context) (e : List ℕ) → Front fires next → Stage fires branch c e → NoneBelow branch fires
+        → NoneSmaller task c (end_size end) → Closes task end c → EndIs fires branch end (end_size end)
+    end_flat (As disjunct args) branch fires next c e front stage free best h = record {
       more = [];
       next = next;
       front = front_same fires next front;
       closed = subst (λ (fs : List Fire). IsAnswered task from fs disjunct branch) (sym (append-nil fires)) (answer_flat fires branch c e stage disjunct args h);
       counts = omega arith;
+      inside = tt;
     }
-    end_flat Efq branch fires next c e front stage h = record {
+    end_flat Efq branch fires next c e front stage free best h = record {
       more = [];
       next = next;
       front = front_same fires next front;
       closed = subst (λ (fs : List Fire). MaySplit task from fs [] branch) (sym (append-nil fires))
           (some_with (λ line is same. subst (LineIs fires branch e) same is) c.lines stage.lines h);
       counts = omega arith;
+      inside = tt;
     }
-    end_flat (Cs' line s row) branch fires next c e front stage h =
+    end_flat (Cs' line s row) branch fires next c e front stage free best h =
         let found = each_get (LineIs fires branch e) c.lines line (Cases h.0) stage.lines h.1 in
-        let rest = row_flat row 0 h.0 branch fires next c e front stage found.0 h.2 in
+        let rest = row_flat row 0 h.0 branch fires next c e front stage (each_map (λ fire none more case high is. none more case is) fires free) found.0 (1 + sizes row) best (omega arith)
+        (λ other proves less. best (record { steps = []; end = Cs' line s other }) (h.0, h.1, proves)
+        (let total : 0 + (1 + sizes other) < 1 + sizes row = omega arith in total)) h.2 in
         let counts : length rest.more + end_counts row ≡ sizes row = rest.counts in
         record {
           more = rest.more;
@@ -406,30 +610,52 @@ module _ (constants : ℕ) (task : Task) (right : IsTask constants task) (from :
           front = rest.front;
           closed = (map (map (image e)) h.0, split_grows task from fires rest.more (map (map (image e)) h.0) branch branch (above_same branch) found.1, rest.closed);
           counts = omega arith;
+          inside = each_map (λ fire is. (is.0 ++ is.1 ∷ [], is.3 ∙ sym (append_assoc is.0 (is.1 ∷ []) branch))) rest.more rest.inside;
         }
 
     -- branches that prove each case close the branches of the split
     row_flat : {n : _} (row : Row_of-Body n) (number : ℕ) (lists : List (List Atom)) (branch : List Case) (fires : List Fire) (next : ℕ) (c : Context) (e : List ℕ)
-        → Front fires next → Stage fires branch c e → AllByRecursion (AllByRecursion (HasElements (length e))) lists → EachProves task row lists c
-        → RowIs fires branch row number (map (map (image e)) lists) (sizes row)
-    row_flat end_of-Body number lists branch fires next c e front stage within h = record {
+        → Front fires next → Stage fires branch c e → NoneFrom number branch fires → AllByRecursion (AllByRecursion (HasElements (length e))) lists
+        → (count : ℕ) → NoneSmaller task c count → sizes row < count → ((other : Row_of-Body n) → EachProves task other lists c → sizes other < sizes row → ⊥)
+        → EachProves task row lists c → RowIs fires branch row number (map (map (image e)) lists) (sizes row)
+    row_flat end_of-Body number lists branch fires next c e front stage free within count best few least h = record {
       more = [];
       next = next;
       front = front_same fires next front;
       closed = ap (map (map (image e))) h;
       counts = omega arith;
+      inside = tt;
     }
-    row_flat (more_of-Body steps end rest) number lists branch fires next c e front stage within h =
+    row_flat (more_of-Body steps end rest) number lists branch fires next c e front stage free within count best few least h =
         let all : AllByRecursion (AllByRecursion (HasElements (length e))) (h.0 ∷ h.1) = subst (AllByRecursion (AllByRecursion (HasElements (length e)))) h.2 within in
         let case : Case = record { number = number; facts = map (image e) h.0 } in
-        let first = steps_flat steps end (Closes task end) (end_size end) (case ∷ branch) (end_flat end (case ∷ branch)) fires next (with_facts c h.0) e front
-        (case_stage fires branch c e stage number h.0 all.0) h.3 in
+        let total : length steps + end_size end + sizes rest < count = few in
+        let first = steps_flat steps end (case ∷ branch) (end_flat end (case ∷ branch)) fires next (with_facts c h.0) e front
+        (case_stage fires branch c e stage number h.0 all.0 free)
+        (each_map (λ fire none more x is. none (more ++ x ∷ []) case (omega arith) (is ∙ sym (append_assoc more (x ∷ []) (case ∷ branch)))) fires free)
+        (λ body proves less. let l : length body.steps + end_size body.end < length steps + end_size end = less in
+        least (more_of-Body body.steps body.end rest) (h.0, h.1, h.2, proves, h.4)
+        (let smaller : length body.steps + end_size body.end + sizes rest < length steps + end_size end + sizes rest = omega arith in smaller)) h.3 in
+        let none_first : NoneAbove branch first.more = each_map (λ fire is above. below_not_above branch fire.branch is.0 case is.1 above) first.more first.inside in
         let others = row_flat rest (number + 1) h.1 branch (fires ++ first.more) first.next c e first.front
-        (stage_grows fires first.more branch branch c e (above_same branch) stage) all.1 h.4 in
+        (stage_grows fires first.more branch branch c e (above_same branch) stage (λ fact has. stage.found fact (has_back fires first.more fact (length (fires ++ first.more)) branch none_first has)))
+        (each_append (λ fire. (more : List Case) (x : Case) → number + 1 ≤ x.number → fire.branch ≡ more ++ x ∷ branch → ⊥) fires first.more
+        (each_map (λ fire none more x high is. none more x (omega arith) is) fires free)
+        (each_map (λ fire inside more x high is. let same : case ≡ x = same_case branch inside.0 more case x (sym inside.1 ∙ is) in let one : number ≡ x.number = ap (λ (y : Case). y.number) same in omega arith)
+        first.more first.inside))
+        all.1 count best (omega arith)
+        (λ other proves less. least (more_of-Body steps end other) (h.0, h.1, h.2, h.3, proves)
+        (let l : sizes other < sizes rest = less in let smaller : length steps + end_size end + sizes other < length steps + end_size end + sizes rest = omega arith in smaller)) h.4 in
+        let none_others : NoneAbove branch others.more = each_map (λ fire is above. below_not_above branch fire.branch is.0 is.1 is.3 above) others.more others.inside in
         let same : (fires ++ first.more) ++ others.more ≡ fires ++ (first.more ++ others.more) = append_assoc fires first.more others.more in
         let long = length-append first.more others.more in
         let a : length first.more + end_count end ≡ length steps + end_size end = first.counts in
         let b : length others.more + end_counts rest ≡ sizes rest = others.counts in
+        let aside : AreAside (case ∷ branch) others.more = each_map (λ fire is longer above.
+        let one : longer ++ case ∷ branch ≡ (above.0 ++ is.0) ++ is.1 ∷ branch
+        = above.1 ∙ ap (λ (w : List Case). above.0 ++ w) is.3 ∙ sym (append_assoc above.0 is.0 (is.1 ∷ branch)) in
+        let two : case ≡ is.1 = same_case branch longer (above.0 ++ is.0) case is.1 one in
+        let three : number ≡ is.1.number = ap (λ (y : Case). y.number) two in let high = is.2 in omega arith) others.more others.inside in
         record {
           more = first.more ++ others.more;
           next = others.next;
@@ -438,8 +664,13 @@ module _ (constants : ℕ) (task : Task) (right : IsTask constants task) (from :
             map (image e) h.0,
             map (map (image e)) h.1,
             ap (map (map (image e))) h.2,
-            subst (λ (fs : List Fire). IsClosed task from fs end (case ∷ branch)) same (closed_grows task from (fires ++ first.more) others.more end (case ∷ branch) first.closed),
+            case_needed fires (first.more ++ others.more) branch c e stage (each_append (λ fire. Above fire.branch branch → ⊥) first.more others.more none_first none_others)
+                count best steps end h.0 all.0 h.3 (omega arith),
+            subst (λ (fs : List Fire). IsClosed task from fs end (case ∷ branch)) same (closed_grows task from (fires ++ first.more) others.more end (case ∷ branch) aside first.closed),
             subst (λ (fs : List Fire). AreClosed task from fs rest (number + 1) (map (map (image e)) h.1) branch) same others.closed,
           );
           counts = omega arith;
+          inside = each_append (λ fire. IsIn number branch fire.branch) first.more others.more
+              (each_map (λ fire is. (is.0, case, (omega arith), is.1)) first.more first.inside)
+              (each_map (λ fire is. (is.0, is.1, (let high = is.2 in omega arith), is.3)) others.more others.inside);
         }

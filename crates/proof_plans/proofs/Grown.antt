@@ -51,7 +51,7 @@ flag_low (suc n) zero e = omega arith
 flag_low (suc n) (suc i) e = let low = flag_low n i e in omega arith
 
 -- numbers with one more that differs from each are apart
-apart_more : (indices : List ℕ) (index : ℕ) → AreApart indices → AllByRecursion (λ other. other ≢ index) indices → AreApart (indices ++ index ∷ [])
+pub apart_more : (indices : List ℕ) (index : ℕ) → AreApart indices → AllByRecursion (λ other. other ≢ index) indices → AreApart (indices ++ index ∷ [])
 apart_more [] index h differ = (tt, tt)
 apart_more (i ∷ is) index h differ = (each_append (λ other. i ≢ other) is (index ∷ []) h.0 (differ.0, tt), apart_more is index h.1 differ.1)
 

@@ -1,7 +1,7 @@
 pub mod Rows
 pub mod Roots
 pub mod Seen
-pub mod Removed
+pub mod Least
 pub mod Flat
 pub mod Start
 pub mod Steps
@@ -23,7 +23,12 @@ pub mod Taken
 pub mod Tried
 pub mod Tying
 pub mod Repeats
+pub mod Novel
 pub mod Differing
 pub mod Signs
+pub mod FactSets
+pub mod Landmarked
+pub mod Missing
+pub mod Walked
 pub mod Gathered
 pub mod Offered

@@ -6,7 +6,7 @@ use Rattle.vernacular_tree.specs.Contexts.{Task}
 use Rattle.vernacular_tree.specs.Carries.{image, HasElements}
 use Rattle.vernacular_tree.specs.declared.context.Context.{Context}
 use Rattle.vernacular_tree.specs.declared.tree.End.{End}
-use Rattle.proof_plans.specs.Runs.{Case, Above, Fire, Has, IsClosed}
+use Rattle.proof_plans.specs.Runs.{Case, Above, Fire, Has, IsNovel, IsClosed}
 use Rattle.proof_plans.specs.Plans.{Step, variables_of, Tie, before, under, over, Goal}
 use Rattle.proof_plans.specs.Embeds.{case_image, branch_image, HasVariables, StepIs, StepsAre, IsBefore, Stands, TieHolds, UserIs, GoalIs, BranchesAre}
 use Rattle.text_core.proofs.Laws.{each_map, get_front}
@@ -108,4 +108,4 @@ module _ (values more : List ℕ) where
     branches_kept task context [] (end ∷ ends) h = absurd h
     branches_kept task context (b ∷ bs) [] h = absurd h
     branches_kept task context (b ∷ bs) (end ∷ ends) h =
-        (variables_kept b h.0, subst (IsClosed task context fires end) (sym (branch_kept b h.0)) h.1, branches_kept task context bs ends h.2)
+        (variables_kept b h.0, subst (IsClosed task context fires end) (sym (branch_kept b h.0)) h.1, subst (IsNovel fires) (sym (branch_kept b h.0)) h.2, branches_kept task context bs ends h.3)

@@ -392,6 +392,7 @@ module _ (task : Task) (lent : Context) where
           fires = h.fires;
           run = h.run;
           tight = h.tight;
+          ended = h.ended;
           values = h.values ++ by.elements;
           indices = h.indices;
           left = by.ends;
@@ -429,6 +430,7 @@ module _ (task : Task) (lent : Context) where
           fires = h.fires;
           run = h.run;
           tight = h.tight;
+          ended = h.ended;
           values = h.values;
           indices = h.indices;
           left = by.ends;
@@ -467,6 +469,7 @@ module _ (task : Task) (lent : Context) where
           fires = h.fires;
           run = h.run;
           tight = h.tight;
+          ended = h.ended;
           values = h.values;
           indices = h.indices;
           left = by.ends;
@@ -517,6 +520,7 @@ module _ (task : Task) (lent : Context) where
           fires = h.fires;
           run = h.run;
           tight = h.tight;
+          ended = h.ended;
           values = h.values ++ by.elements;
           indices = h.indices ++ by.index ∷ [];
           left = by.ends;

@@ -27,13 +27,13 @@ use Rattle.proof_plans.specs.Moves.{lists_in}
 use Rattle.proof_plans.specs.Drafts.{Drafted, AreListed, IsStep, IsCase, IsBranch}
 use Rattle.proof_plans.specs.Hopes.{Hope}
 use Rattle.proof_plans.specs.Scenes.{IsScene, Reads, list_base, slot_variable}
-use Rattle.proof_plans.specs.Repeats.{fact_of, HasSame, IsInCases, IsOfStep, StandsBefore}
+use Rattle.proof_plans.specs.Repeats.{fact_of, HasSame, IsGiven, IsInCases, IsOfStep, StandsBefore}
 use Rattle.proof_plans.proofs.Reading.{slot_reads, listed_reads, get_mapped}
 use Rattle.proof_plans.proofs.Searched.{agrees}
 use Rattle.proof_plans.proofs.Steps.{step_at}
 use Rattle.proof_plans.proofs.Guide.{lists_image}
 use Rattle.proof_plans.proofs.Placed.{tie_at, tie_before, tie_under}
-use Rattle.proof_plans.proofs.Removed.{has_down}
+use Rattle.proof_plans.proofs.Seen.{has_down}
 use Rattle.proof_plans.proofs.Tying.{both_at}
 
 -- the arguments of a fact
@@ -127,10 +127,9 @@ some_drop P f [] (suc k) h = h
 some_drop P f (x ∷ xs) (suc k) h = inr (some_drop P f xs k h)
 
 module _ (scene : Scene) (d : Drafted) (base : ℕ) (atom : Atom) where
-  -- a fact of the context stands before each step
-  pub given_stands : (number : ℕ) (line : Line) → slice_get scene.lines.now number ≡ Some line → ((facts : List Atom) × (line ≡ Facts facts) × HasSame d base atom 0 facts)
-      → (step : ℕ) → StandsBefore scene d step base atom
-  given_stands number line line_is same step = λ task lent n is h index fire index_is fire_is.
+  -- a fact of a line is one of the context
+  pub given_among : (number : ℕ) (line : Line) → slice_get scene.lines.now number ≡ Some line → ((facts : List Atom) × (line ≡ Facts facts) × HasSame d base atom 0 facts) → IsGiven scene d base atom
+  given_among number line line_is same = λ task lent n is h.
       let facts : List Atom = same.0 in
       let there : slice_get lent.lines number ≡ Some (Facts facts) = ap (λ (ls : List Line). slice_get ls number) (sym is.lines_are) ∙ line_is ∙ ap Some same.1 in
       let low : LineIsBelow lent.elements (Facts facts) = each_get (LineIsBelow lent.elements) lent.lines number (Facts facts) h.ok.lines there in
@@ -138,9 +137,14 @@ module _ (scene : Scene) (d : Drafted) (base : ℕ) (atom : Atom) where
       let one : same.2.fact ≡ fact_of h.values base atom
       = sym (given_fact lent.elements h.values h.embeds.itself same.2.fact has) ∙ same.2.same h.values (agrees task lent n d h) in
       let among = line_among lent.lines number facts there same.2.fact (get_among facts same.2.number same.2.fact same.2.fact_is) in
+      subst (λ (f : Atom). IsAmong f (all_facts lent.lines)) one among
+
+  -- a fact of the context stands before each step
+  pub given_stands : IsGiven scene d base atom → (step : ℕ) → StandsBefore scene d step base atom
+  given_stands given step = λ task lent n is h index fire index_is fire_is.
       let rooted = h.run.rooted index fire fire_is in
       inl (subst (SomeOf (λ case. IsAmong (fact_of h.values base atom) case.facts)) (sym rooted.1)
-      (some_back (λ case. IsAmong (fact_of h.values base atom) case.facts) rooted.0 (root_of lent) (inl (subst (λ (f : Atom). IsAmong f (all_facts lent.lines)) one among))))
+      (some_back (λ case. IsAmong (fact_of h.values base atom) case.facts) rooted.0 (root_of lent) (inl (given task lent n is h))))
 
   -- the case with which a branch begins has a fact
   pub case_has : (node : ℕ) (kept : Node) (facts : List Atom) → node ≢ 0 → slice_get d.nodes node ≡ Some kept

@@ -1,6 +1,5 @@
 -- What stays open where a search moves, and what it rules out.
 use Rattle.std.proofs.Common.{◌≡◌, ℕ, zero, suc, ◌+◌, ◌<◌, ◌≤◌, ◌⊎◌, inl, inr, ⊎_elim, Bool, true, List, [], ◌∷◌, ◌++◌, length, take, set, slice_get, slice_index, Some, refl, ap, sym, ◌∙◌, subst, arith}
-use Rattle.std.proofs.lemmas.Bool.{cases_lt}
 use Rattle.std.specs.List.{AllByRecursion}
 use Rattle.text_core.proofs.Laws.{each_front, each_back}
 use Rattle.vernacular_tree.specs.Contexts.{Task}
@@ -22,16 +21,16 @@ use Rattle.vernacular_tree.specs.declared.tree.Body.{Body}
 use Rattle.vernacular_tree.specs.declared.tree.End.{End}
 use Rattle.proof_plans.specs.Runs.{Fire, IsRun, IsClosed, root_of, end_count}
 use Rattle.proof_plans.specs.Barren.{IsTight}
-use Rattle.proof_plans.proofs.Removed.{tight_enough}
 use Rattle.proof_plans.specs.Plans.{first_plan}
 use Rattle.proof_plans.specs.Drafts.{first_draft}
+use Rattle.proof_plans.proofs.Least.{NoneSmaller}
 use Rattle.proof_plans.proofs.Start.{flat, first_embeds}
 use Rattle.proof_plans.specs.Drafts.{Drafted, Both, IsGoal, with_goal, with_goal_at, with_pair, mark_of, cut}
 use Rattle.proof_plans.specs.Scenes.{Extends}
 use Rattle.proof_plans.specs.Hopes.{PairHolds, Hope, IsHopeless}
-use Rattle.proof_plans.proofs.Steps.{differ, cost_dead}
+use Rattle.proof_plans.proofs.Steps.{differ}
 use Rattle.proof_plans.proofs.Moved.{goals_embed, bind_embeds}
-use Rattle.proof_plans.proofs.Hoped.{both_last, both_long}
+use Rattle.proof_plans.proofs.Hoped.{both_last}
 use Rattle.proof_plans.proofs.Puts.{both_put, set_back}
 
 module _ (task : Task) (lent : Context) (n : ℕ) where
@@ -56,6 +55,7 @@ module _ (task : Task) (lent : Context) (n : ℕ) where
     fires = h.fires;
     run = h.run;
     tight = h.tight;
+    ended = h.ended;
     values = h.values;
     indices = h.indices;
     left = h.left;
@@ -97,6 +97,7 @@ module _ (task : Task) (lent : Context) (n : ℕ) where
     fires = h.fires;
     run = h.run;
     tight = h.tight;
+    ended = h.ended;
     values = h.values;
     indices = h.indices;
     left = h.left;
@@ -147,6 +148,7 @@ module _ (task : Task) (lent : Context) (n : ℕ) where
         fires = h.fires;
         run = h.run;
         tight = h.tight;
+        ended = h.ended;
         values = h.values;
         indices = h.indices;
         left = h.left;
@@ -182,17 +184,8 @@ module _ (task : Task) (lent : Context) (n : ℕ) where
           ap (λ (k : ℕ). slice_index h.values (d.start + k)) new.0 ∙ bound_now ∙ ap (slice_index h.values) (sym new.1)
       by_place i a (inr old) = agrees (with_pair p d) h i a old
 
-  -- a proof has as many applications as its plan at least
-  pub hope_cost : (d : Drafted) → Hope task lent n d → length d.steps + d.closed + length d.branches ≤ n
-  hope_cost d h =
-      let steps = both_long _ d.steps h.plan.steps h.keeps.steps_are in
-      let branches = both_long _ d.branches h.plan.branches h.keeps.branches_are in
-      let closed = h.keeps.closed_is in
-      ⊎_elim (λ more. absurd (cost_dead task lent n h.plan (omega (arith, more, steps, branches, closed)) h.fires h.values h.indices h.left h.run h.embeds h.small)) (λ few. few)
-      (cases_lt n (length d.steps + d.closed + length d.branches))
-
 -- the items of a list before others
-take_front : {X : Type 0} (xs ys : List X) → take (length xs) (xs ++ ys) ≡ xs
+pub take_front : {X : Type 0} (xs ys : List X) → take (length xs) (xs ++ ys) ≡ xs
 take_front [] ys = refl
 take_front (x ∷ xs) ys = ap (λ (l : List _). x ∷ l) (take_front xs ys)
 
@@ -252,6 +245,7 @@ module _ (constants : ℕ) (task : Task) (right : IsTask constants task) (lent :
     fires = fires;
     run = run;
     tight = tight;
+    ended = (end, closed);
     values = counted 0 lent.elements;
     indices = [];
     left = end ∷ [];
@@ -262,12 +256,16 @@ module _ (constants : ℕ) (task : Task) (right : IsTask constants task) (lent :
 
   -- where the first plan is without hope, there is no proof
   pub first_hopeless : (most : ℕ) (cut : Bool) → IsHopeless task lent most cut (first_draft lent.elements) → (body : Body) → IsProof task lent body → (cut ≡ true → size body ≤ most) → ⊥
-  first_hopeless most cut hopeless body proves small =
-      let run = flat constants task right lent ok body proves in
-      let counts : length run.more + end_count body.end ≡ size body = run.counts in
-      tight_enough task lent body.end (root_of lent) (size body)
-      (λ fires is tight closed few. hopeless (size body) small (first_hope (size body) body.end fires is tight closed few))
-      (length run.more) run.more refl run.front.run run.closed (omega arith)
+  first_hopeless most cut hopeless body proves small = none (suc (size body)) body proves (omega arith) small
+    where
+      none : (count : ℕ) (body : Body) → IsProof task lent body → size body < count → (cut ≡ true → size body ≤ most) → ⊥
+      none zero body proves few small = absurd (omega arith)
+      none (suc count) body proves few small =
+          let best : NoneSmaller task lent (size body) = λ other is less.
+          none count other is (omega arith) (λ was. let low : size body ≤ most = small was in let smaller : size other ≤ most = omega arith in smaller) in
+          let run = flat constants task right lent ok body best proves in
+          let counts : length run.more + end_count body.end ≡ size body = run.counts in
+          hopeless (size body) small (first_hope (size body) body.end run.more run.front.run run.front.tight run.closed (omega arith))
 
 -- a variable that was bound is free again
 pub bind_back : (d bound left again : Drafted) (at to free : ℕ) → bound ≡ record d { bound = set d.bound at to } → left ≡ bound → again ≡ record left { bound = set left.bound at free } → slice_get d.bound at ≡ Some free → again ≡ d

@@ -1,13 +1,14 @@
 -- What stands, is known or is closed among applications stays so where more of them follow, and in
 -- the branches below.
-use Rattle.std.proofs.Common.{ℕ, ◌+◌, ◌≤◌, inl, inr, List, [], ◌∷◌, ◌++◌, length, refl, sym, append_assoc, arith, length-append}
+use Rattle.std.proofs.Common.{◌≡◌, ℕ, zero, suc, ◌+◌, ◌<◌, ◌≤◌, ◌⊎◌, inl, inr, ⊎_elim, List, [], ◌∷◌, ◌++◌, length, slice_get, Some, refl, ap, sym, subst, append_assoc, append-nil, arith, length-append}
+use Rattle.std.specs.List.{AllByRecursion}
 use Rattle.text_core.specs.Lists.{IsAmong}
 use Rattle.logic_core.specs.declared.form.Atom.{Atom}
 use Rattle.vernacular_tree.specs.Contexts.{Task, parameters, atom_at}
 use Rattle.vernacular_tree.specs.declared.context.Context.{Context}
 use Rattle.vernacular_tree.specs.declared.tree.End.{End, As, Efq, Cs', Row_of-Body, end_of-Body, more_of-Body}
-use Rattle.proof_plans.specs.Runs.{Case, Above, Fire, IsSeen, Has, IsKnown, IsRight, MaySplit, IsAnswered, IsClosed, AreClosed}
-use Rattle.text_core.proofs.Laws.{each_map, get_front, some_back}
+use Rattle.proof_plans.specs.Runs.{Case, Above, Fire, IsSeen, Has, IsFresh, IsKnown, IsRight, MaySplit, IsAnswered, IsClosed, AreClosed}
+use Rattle.text_core.proofs.Laws.{each_map, each_member, get_front, some_back}
 
 -- each branch leads to itself
 pub above_same : (branch : List Case) → Above branch branch
@@ -42,6 +43,69 @@ has_grows fires more fact limit later branch below le down (inr made) = inr (rec
   one = made.one;
   among = made.among;
 })
+
+-- a fact that stands does so before a later number and in a branch below
+pub has_down : (fires : List Fire) (fact : Atom) (limit later : ℕ) (branch below : List Case) → limit ≤ later → Above branch below → Has fires fact limit branch → Has fires fact later below
+has_down fires fact limit later branch below le down h =
+    subst (λ (fs : List Fire). Has fs fact later below) (append-nil fires) (has_grows fires [] fact limit later branch below le down h)
+
+-- what has a number in two lists is one of the first with that number, or one of the second
+get_either : {X : Type 0} (xs ys : List X) (i : ℕ) (x : X) → slice_get (xs ++ ys) i ≡ Some x → ((i < length xs) × (slice_get xs i ≡ Some x)) ⊎ IsAmong x ys
+get_either [] ys i x is = inr (among ys i is)
+  where
+    among : (ys : List _) (i : ℕ) → slice_get ys i ≡ Some x → IsAmong x ys
+    among [] i is = absurd (cc)
+    among (y ∷ ys) zero is = inl (let same : y ≡ x = cc in same)
+    among (y ∷ ys) (suc i) is = inr (among ys i is)
+get_either (z ∷ xs) ys zero x is = inl (omega arith, is)
+get_either (z ∷ xs) ys (suc i) x is = ⊎_elim (λ here. inl (let low : i < length xs = here.0 in omega arith, here.1)) (λ later. inr later) (get_either xs ys i x is)
+
+-- what has a low number in two lists is one of the first
+get_low : {X : Type 0} (xs ys : List X) (i : ℕ) (x : X) → i < length xs → slice_get (xs ++ ys) i ≡ Some x → slice_get xs i ≡ Some x
+get_low [] ys i x low is = absurd (omega arith)
+get_low (z ∷ xs) ys zero x low is = is
+get_low (z ∷ xs) ys (suc i) x low is = get_low xs ys i x (omega arith) is
+
+-- a fact that stands before a low number did so before more applications followed
+pub has_front : (fires more : List Fire) (fact : Atom) (limit : ℕ) (branch : List Case) → limit ≤ length fires → Has (fires ++ more) fact limit branch → Has fires fact limit branch
+has_front fires more fact limit branch low (inl given) = inl given
+has_front fires more fact limit branch low (inr made) =
+    let before : made.index < limit = made.before in inr (record {
+      index = made.index;
+      before = made.before;
+      seen = record { fire = made.seen.fire; is = get_low fires more made.index made.seen.fire (omega arith) made.seen.is; above = made.seen.above };
+      facts = made.facts;
+      one = made.one;
+      among = made.among;
+    })
+
+-- no application stands in a branch or in one that leads to it
+abbrev pub NoneAbove : List Case → List Fire → Type 0
+NoneAbove branch more = AllByRecursion (λ fire. Above fire.branch branch → ⊥) more
+
+-- no application stands in a branch, in one that leads to it, or in one to which a branch leads that it leads to
+abbrev pub AreAside : List Case → List Fire → Type 0
+AreAside branch more = AllByRecursion (λ fire. (longer : List Case) → Above fire.branch (longer ++ branch) → ⊥) more
+
+-- a fact that stands did so before more applications followed that are not seen
+pub has_back : (fires more : List Fire) (fact : Atom) (limit : ℕ) (branch : List Case) → NoneAbove branch more → Has (fires ++ more) fact limit branch → Has fires fact (length fires) branch
+has_back fires more fact limit branch none (inl given) = inl given
+has_back fires more fact limit branch none (inr made) = ⊎_elim
+    (λ here. inr (record {
+      index = made.index;
+      before = here.0;
+      seen = record { fire = made.seen.fire; is = here.1; above = made.seen.above };
+      facts = made.facts;
+      one = made.one;
+      among = made.among;
+    }))
+    (λ later. absurd (each_member (λ fire. Above fire.branch branch → ⊥) more none made.seen.fire later made.seen.above))
+    (get_either fires more made.index made.seen.fire made.seen.is)
+
+-- facts that are new are new where more applications follow that are not seen
+pub fresh_grows : (fires more : List Fire) (facts : List Atom) (branch : List Case) → NoneAbove branch more → IsFresh fires facts branch → IsFresh (fires ++ more) facts branch
+fresh_grows fires more facts branch none fresh stand =
+    fresh (each_map (λ fact has. has_back fires more fact (length (fires ++ more)) branch none has) facts stand)
 
 -- an element that is known is still known
 pub known_grows : (start : ℕ) (fires more : List Fire) (limit later element : ℕ) (branch below : List Case) → limit ≤ later → Above branch below
@@ -85,14 +149,22 @@ module _ (task : Task) (from : Context) where
       }
 
   mutual
-    -- a branch that is closed is still closed
-    pub closed_grows : (fires more : List Fire) (end : End) (branch : List Case) → IsClosed task from fires end branch → IsClosed task from (fires ++ more) end branch
-    closed_grows fires more (As disjunct args) branch h = answered_grows fires more disjunct branch h
-    closed_grows fires more Efq branch h = split_grows fires more [] branch branch (above_same branch) h
-    closed_grows fires more (Cs' line s row) branch h = (h.0, split_grows fires more h.0 branch branch (above_same branch) h.1, rows_grow fires more row 0 h.0 branch h.2)
+    -- a branch that is closed is still closed, where the applications that follow stand aside
+    pub closed_grows : (fires more : List Fire) (end : End) (branch : List Case) → AreAside branch more → IsClosed task from fires end branch → IsClosed task from (fires ++ more) end branch
+    closed_grows fires more (As disjunct args) branch aside h = answered_grows fires more disjunct branch h
+    closed_grows fires more Efq branch aside h = split_grows fires more [] branch branch (above_same branch) h
+    closed_grows fires more (Cs' line s row) branch aside h = (h.0, split_grows fires more h.0 branch branch (above_same branch) h.1, rows_grow fires more row 0 h.0 branch aside h.2)
 
-    pub rows_grow : {n : _} (fires more : List Fire) (row : Row_of-Body n) (number : ℕ) (lists : List (List Atom)) (branch : List Case)
+    pub rows_grow : {n : _} (fires more : List Fire) (row : Row_of-Body n) (number : ℕ) (lists : List (List Atom)) (branch : List Case) → AreAside branch more
         → AreClosed task from fires row number lists branch → AreClosed task from (fires ++ more) row number lists branch
-    rows_grow fires more end_of-Body number lists branch h = h
-    rows_grow fires more (more_of-Body steps end rest) number lists branch h =
-        (h.0, h.1, h.2, closed_grows fires more end (record { number = number; facts = h.0 } ∷ branch) h.3, rows_grow fires more rest (number + 1) h.1 branch h.4)
+    rows_grow fires more end_of-Body number lists branch aside h = h
+    rows_grow fires more (more_of-Body steps end rest) number lists branch aside h =
+        let case : Case = record { number = number; facts = h.0 } in (
+          h.0,
+          h.1,
+          h.2,
+          fresh_grows fires more h.0 branch (each_map (λ fire apart. apart []) more aside) h.3,
+          closed_grows fires more end (case ∷ branch)
+              (each_map (λ fire apart longer above. apart (longer ++ case ∷ []) (subst (Above fire.branch) (sym (append_assoc longer (case ∷ []) branch)) above)) more aside) h.4,
+          rows_grow fires more rest (number + 1) h.1 branch aside h.5,
+        )

@@ -21,7 +21,6 @@ use Rattle.proof_plans.specs.Drafts.{Drafted, AreListed, IsCase, IsBranch, IsGoa
 use Rattle.proof_plans.specs.Hopes.{Hope}
 use Rattle.proof_plans.specs.Scenes.{IsScene, Reads}
 use Rattle.proof_plans.specs.Barren.{IsTight}
-use Rattle.proof_plans.specs.Idle.{IsIdle}
 use Rattle.proof_plans.specs.Signs.{MayStand, Differ, IsReached, PremiseReached, IsKept, LineReached, CaseReached, IsUnmet}
 use Rattle.proof_plans.proofs.Seen.{above_on}
 use Rattle.proof_plans.proofs.Guide.{one_list}

@@ -20,36 +20,16 @@ use Rattle.vernacular_tree.specs.declared.tree.End.{End}
 use Rattle.proof_plans.specs.Runs.{Fire, Has, IsKnown, IsClosed, all_given, all_facts, root_of}
 use Rattle.proof_plans.specs.Plans.{first_plan}
 use Rattle.proof_plans.specs.Embeds.{branch_image, Embeds}
-use Rattle.text_core.proofs.Laws.{each_map, each_append, some_front, some_back}
+use Rattle.text_core.proofs.Laws.{each_map, each_append, each_member, some_front, some_back}
+use Rattle.proof_plans.proofs.Least.{NoneSmaller, counted_rises, Found, line_stands, image_itself, facts_itself, lists_itself}
 use Rattle.vernacular_tree.proofs.Numbers.{counted_length, counted_at}
 use Rattle.proof_plans.proofs.Seen.{above_same}
 use Rattle.proof_plans.proofs.Flat.{LineIs, Stage, Front, EndIs, steps_flat, end_flat}
 
--- as many numbers in a row as there are elements stand for themselves
-module _ (n : ℕ) where
-  slot_same : (s : Slot) → SlotIsBelow 0 n s → slot_image (counted 0 n) s ≡ s
-  slot_same (Variable v) h = refl
-  slot_same (Constant a) h = ap Constant (let same = counted_at 0 n a h in omega arith)
-
-  slots_same : (ss : List Slot) → AllByRecursion (SlotIsBelow 0 n) ss → map (slot_image (counted 0 n)) ss ≡ ss
-  slots_same [] h = refl
-  slots_same (s ∷ ss) h = let first = slot_same s h.0 in let rest = slots_same ss h.1 in cc
-
-  pub image_itself : (fact : Atom) → HasElements n fact → image (counted 0 n) fact ≡ fact
-  image_itself fact h = ap (λ (args : List Slot). record { positive = fact.positive; symbol = fact.symbol; args = args }) (slots_same fact.args h)
-
-  pub facts_itself : (facts : List Atom) → AllByRecursion (HasElements n) facts → map (image (counted 0 n)) facts ≡ facts
-  facts_itself [] h = refl
-  facts_itself (f ∷ fs) h = let first = image_itself f h.0 in let rest = facts_itself fs h.1 in cc
-
-  lists_itself : (lists : List (List Atom)) → AllByRecursion (AllByRecursion (HasElements n)) lists → map (map (image (counted 0 n))) lists ≡ lists
-  lists_itself [] h = refl
-  lists_itself (l ∷ ls) h = let first = facts_itself l h.0 in let rest = lists_itself ls h.1 in cc
-
-  -- numbers in a row are below their end
-  counted_low : (first k : ℕ) → first + k ≤ n → AllByRecursion (λ x. x < n) (counted first k)
-  counted_low first zero h = tt
-  counted_low first (suc k) h = (omega arith, counted_low (first + 1) k (omega arith))
+-- numbers in a row are below their end
+counted_low : (n first k : ℕ) → first + k ≤ n → AllByRecursion (λ x. x < n) (counted first k)
+counted_low n first zero h = tt
+counted_low n first (suc k) h = (omega arith, counted_low n (first + 1) k (omega arith))
 
 module _ (constants : ℕ) (task : Task) (right : IsTask constants task) (from : Context) (ok : IsContext task from) where
   -- the elements of the context, in order
@@ -57,7 +37,7 @@ module _ (constants : ℕ) (task : Task) (right : IsTask constants task) (from :
   elements = counted 0 from.elements
 
   -- the facts of lines have elements of the context
-  facts_within : (lines : List Line) → AllByRecursion (LineIsBelow from.elements) lines → AllByRecursion (HasElements from.elements) (all_facts lines)
+  pub facts_within : (lines : List Line) → AllByRecursion (LineIsBelow from.elements) lines → AllByRecursion (HasElements from.elements) (all_facts lines)
   facts_within [] h = tt
   facts_within (Facts facts ∷ lines) h = each_append (HasElements from.elements) facts (all_facts lines) h.0 (facts_within lines h.1)
   facts_within (Cases lists ∷ lines) h = facts_within lines h.1
@@ -102,7 +82,21 @@ module _ (constants : ℕ) (task : Task) (right : IsTask constants task) (from :
     known = each_map {Q = λ x. IsKnown from.elements [] 0 x (root_of from)} (λ x low. inl low) elements (counted_low from.elements 0 from.elements (omega arith));
     lines = lines_flat from.lines ok.lines (λ fact among. among) (λ lists among. among);
     rooted = above_same (root_of from);
+    ok = ok;
+    rises = counted_rises 0 from.elements;
+    found = found_first;
   }
+    where
+      found_first : (fact : Atom) → Has [] fact 0 (root_of from) → Found from elements fact
+      found_first fact (inl (inl among)) =
+          let low : HasElements from.elements fact = each_member (HasElements from.elements) (all_facts from.lines) (facts_within from.lines ok.lines) fact among in record {
+            original = fact;
+            within = subst (λ (n : ℕ). HasElements n fact) (sym (counted_length 0 from.elements)) low;
+            stands = line_stands from.lines fact among;
+            same = image_itself from.elements fact low;
+          }
+      found_first fact (inl (inr none)) = absurd none
+      found_first fact (inr made) = let before : made.index < 0 = made.before in absurd (omega arith)
 
   -- no applications are a run
   first_front : Front constants task right from ok.start [] from.elements
@@ -110,12 +104,13 @@ module _ (constants : ℕ) (task : Task) (right : IsTask constants task) (from :
     run = record { right = λ index fire is. absurd (cc); apart = λ i j fire later less is also. absurd (cc); rooted = λ index fire is. absurd (cc) };
     low = omega arith;
     ends = λ i fire is. absurd (cc);
+    tight = λ index fire is. absurd (cc);
   }
 
-  -- each proof from the context is a run, which is as large
-  pub flat : (body : Body) → IsProof task from body → EndIs constants task right from ok.start [] (root_of from) body.end (size body)
-  flat body proves = steps_flat constants task right from ok.start body.steps body.end (Closes task body.end) (end_size body.end) (root_of from)
-      (end_flat constants task right from ok.start body.end (root_of from)) [] from.elements from elements first_front first_stage proves
+  -- each proof from the context, where none is smaller, is a run, which is as large
+  pub flat : (body : Body) → NoneSmaller task from (size body) → IsProof task from body → EndIs constants task right from ok.start [] (root_of from) body.end (size body)
+  flat body best proves = steps_flat constants task right from ok.start body.steps body.end (root_of from)
+      (end_flat constants task right from ok.start body.end (root_of from)) [] from.elements from elements first_front first_stage tt best proves
 
   -- the branch in which a proof begins is its own image
   root_itself : branch_image elements (root_of from) ≡ root_of from
@@ -137,6 +132,7 @@ module _ (constants : ℕ) (task : Task) (right : IsTask constants task) (from :
         branches = (
           (subst (λ (n : ℕ). AllByRecursion (HasElements n) (all_facts from.lines)) (sym long) (facts_within from.lines ok.lines), tt),
           subst (IsClosed task from fires end) (sym root_itself) closed,
+          (λ inner. absurd (inner refl)),
           tt,
         );
         ties = tt;

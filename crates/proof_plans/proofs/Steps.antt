@@ -9,8 +9,8 @@ use Rattle.vernacular_tree.specs.Contexts.{Task, counted}
 use Rattle.vernacular_tree.specs.declared.context.Context.{Context}
 use Rattle.vernacular_tree.specs.declared.tree.End.{End, As, Efq, Cs'}
 use Rattle.proof_plans.specs.Runs.{Case, Fire, elements_of, IsRun, end_count}
-use Rattle.proof_plans.specs.Plans.{Step, variables_of, Plan, cost_of}
-use Rattle.proof_plans.specs.Embeds.{IsNewOf, StepIs, StepsAre, AreApart, BranchesAre, Embeds, ends_in, IsDead}
+use Rattle.proof_plans.specs.Plans.{Step, variables_of, Plan}
+use Rattle.proof_plans.specs.Embeds.{IsNewOf, StepIs, StepsAre, AreApart, BranchesAre, Embeds, ends_in}
 use Rattle.proof_plans.specs.Moves.{Differ}
 use Rattle.text_core.proofs.Laws.{each_map, number_same}
 use Rattle.vernacular_tree.proofs.Numbers.{counted_length, counted_at}
@@ -142,6 +142,10 @@ among_low : (xs : List ℕ) (n : ℕ) → AllByRecursion (λ x. x < n) xs → (q
 among_low [] n h q e = absurd (cc)
 among_low (x ∷ xs) n h q e = by_test n q x (list_any (eqb q) xs) h.0 (among_low xs n h.1 q) e
 
+-- numbers below a bound that are apart are no more than it
+pub apart_few : (xs : List ℕ) (n : ℕ) → AreApart xs → AllByRecursion (λ x. x < n) xs → length xs ≤ n
+apart_few xs n apart low = length-le_from_distinct_below xs n (apart_distinct xs apart) (among_low xs n low)
+
 module _ (task : Task) (context : Context) (fires : List Fire) (run : IsRun task context fires) where
   -- new elements differ from each other and from the first ones
   pub differ : (plan : Plan) (values indices : List ℕ) (left : List End) → Embeds task context fires plan values indices left → Differ context.elements plan.fixed values
@@ -197,14 +201,6 @@ module _ (task : Task) (context : Context) (fires : List Fire) (run : IsRun task
                 | inr more ↦ two_steps j i (sym same) other step second index also is two one (omega arith)
               ]
 
-  -- there are as many steps as applications at most
-  pub steps_few : (plan : Plan) (values indices : List ℕ) (left : List End) → Embeds task context fires plan values indices left → length plan.steps ≤ length fires
-  steps_few plan values indices left h =
-      let long = steps_long fires values plan.steps indices h.steps in
-      let low = steps_low fires values plan.steps indices h.steps in
-      let few = length-le_from_distinct_below indices (length fires) (apart_distinct indices h.apart) (among_low indices (length fires) low) in
-      omega arith
-
   -- each end is one end at least
   ends_more : (end : End) → 1 ≤ end_count end
   ends_more (As disjunct args) = omega arith
@@ -212,16 +208,9 @@ module _ (task : Task) (context : Context) (fires : List Fire) (run : IsRun task
   ends_more (Cs' line s row) = omega arith
 
   -- there are as many open branches as ends at most
-  branches_few : (values : List ℕ) (branches : List (List Case)) (left : List End) → BranchesAre task context fires values branches left → length branches ≤ ends_in left
+  pub branches_few : (values : List ℕ) (branches : List (List Case)) (left : List End) → BranchesAre task context fires values branches left → length branches ≤ ends_in left
   branches_few values [] [] h = omega arith
   branches_few values [] (end ∷ ends) h = absurd h
   branches_few values (b ∷ bs) [] h = absurd h
   branches_few values (b ∷ bs) (end ∷ ends) h =
-      let rest = branches_few values bs ends h.2 in let one = ends_more end in omega arith
-
--- a plan that has more applications than the bound is dead
-pub cost_dead : (task : Task) (context : Context) (most : ℕ) (plan : Plan) → most < cost_of plan → IsDead task context most plan
-cost_dead task context most plan more fires values indices left run h small =
-    let few = steps_few task context fires run plan values indices left h in
-    let open_ones = branches_few task context fires run values plan.branches left h.branches in
-    omega arith
+      let rest = branches_few values bs ends h.3 in let one = ends_more end in omega arith

@@ -20,7 +20,7 @@ use Rattle.proof_plans.specs.declared.draft.Pair.{Pair}
 use Rattle.proof_plans.specs.declared.choice.Choice as Choice
 use Rattle.proof_plans.specs.declared.choice.Choice.TheVariants as choice
 use Rattle.proof_plans.specs.declared.scene.Scene.{Scene}
-use Rattle.proof_plans.specs.Runs.{Case, Fire, IsRun}
+use Rattle.proof_plans.specs.Runs.{Case, Fire, IsRun, IsEnded}
 use Rattle.proof_plans.specs.Barren.{IsTight}
 use Rattle.proof_plans.specs.Plans.{Tie, before, under, over, Goal, Plan}
 use Rattle.proof_plans.specs.Embeds.{TieHolds, IsBefore, IsUnder, GoalIs, Embeds, ends_in}
@@ -185,9 +185,9 @@ module _ (task : Task) (lent : Context) (n : ℕ) (fires : List Fire) (left : Li
         (part_tied (tie.Over step g.node) (over known_step branch) d (same, is) seen p)
 
     -- pairs of variables that stand for one element
-    part_paired : (constants : ℕ) → IsTask constants task → IsContext task lent → IsRun task lent fires → IsTight fires → (pairs : List Pair) (d : Drafted) → AllByRecursion (PairHolds values) pairs
+    part_paired : (constants : ℕ) → IsTask constants task → IsContext task lent → IsRun task lent fires → IsTight fires → IsEnded task lent fires → (pairs : List Pair) (d : Drafted) → AllByRecursion (PairHolds values) pairs
         → IsPart values indices d → Hope task lent n (with_pairs pairs d)
-    part_paired constants right ok run tight pairs d hold p = record {
+    part_paired constants right ok run tight ended pairs d hold p = record {
       constants = constants;
       right = right;
       ok = ok;
@@ -205,6 +205,7 @@ module _ (task : Task) (lent : Context) (n : ℕ) (fires : List Fire) (left : Li
       fires = fires;
       run = run;
       tight = tight;
+      ended = ended;
       values = values;
       indices = indices;
       left = left;
@@ -244,7 +245,7 @@ module _ (task : Task) (lent : Context) (n : ℕ) (d : Drafted) (none : d.pairs 
       → (old new : Drafted) → IsPart task lent n h.fires h.left values indices old → IsPaired scene g of number old new → Hope task lent n new
   paired_hope newest values indices of number fact old new part is =
       subst (Hope task lent n) (sym is.new_is)
-      (part_paired task lent n h.fires h.left values indices h.constants h.right h.ok h.run h.tight is.pairs old
+      (part_paired task lent n h.fires h.left values indices h.constants h.right h.ok h.run h.tight h.ended is.pairs old
       (is.are h.constants task lent n d d.nodes newest.goal values h.right h.ok here newest.is fact) part)
 
   given_hope : (line number : ℕ) → ByGiven task lent n d g h line number → (new : Drafted) → IsPaired scene g (list.Line line) number d new → Hope task lent n new

@@ -39,6 +39,7 @@ before_hope task lent n d h low user holds = record {
   fires = h.fires;
   run = h.run;
   tight = h.tight;
+  ended = h.ended;
   values = h.values;
   indices = h.indices;
   left = h.left;

@@ -7,7 +7,7 @@ use Rattle.vernacular_tree.specs.Carries.{image, HasElements}
 use Rattle.vernacular_tree.specs.Contexts.{Task}
 use Rattle.vernacular_tree.specs.declared.context.Context.{Context}
 use Rattle.vernacular_tree.specs.declared.tree.End.{End}
-use Rattle.proof_plans.specs.Runs.{Case, Above, Fire, elements_of, Has, IsRun, IsClosed, end_count}
+use Rattle.proof_plans.specs.Runs.{Case, Above, Fire, elements_of, Has, IsNovel, IsClosed, end_count}
 use Rattle.proof_plans.specs.Plans.{Step, variables_of, Tie, before, under, over, Goal, Plan}
 
 -- a branch at the elements of its variables
@@ -103,12 +103,13 @@ pub record GoalIs (fires : List Fire) (values indices : List ℕ) (goal : Goal) 
   pub has : Has fires (image values goal.atom) limit branch
 
 module _ (task : Task) (context : Context) (fires : List Fire) where
-  -- open branches are closed by these ends
+  -- open branches are closed by these ends, and the case of each says something new
   abbrev pub BranchesAre : List ℕ → List (List Case) → List End → Type 0
   BranchesAre values [] [] = Unit {0}
   BranchesAre values (branch ∷ branches) (end ∷ ends) =
       HasVariables (length values) branch
       × IsClosed task context fires end (branch_image values branch)
+      × IsNovel fires (branch_image values branch)
       × BranchesAre values branches ends
   BranchesAre values _ _ = ⊥
 
@@ -132,9 +133,3 @@ module _ (task : Task) (context : Context) (fires : List Fire) where
 abbrev pub ends_in : List End → ℕ
 ends_in [] = 0
 ends_in (end ∷ ends) = end_count end + ends_in ends
-
--- a plan is a part of no proof from the context with so few applications
-abbrev pub IsDead : Task → Context → ℕ → Plan → Type 0
-IsDead task context most plan = (fires : List Fire) (values indices : List ℕ) (left : List End)
-    → IsRun task context fires → Embeds task context fires plan values indices left
-    → length fires + plan.closed + ends_in left ≤ most → ⊥

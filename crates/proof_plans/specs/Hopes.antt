@@ -21,7 +21,7 @@ use Rattle.proof_plans.specs.declared.choice.Choice as Choice
 use Rattle.proof_plans.specs.declared.choice.Choice.TheVariants as choice
 use Rattle.proof_plans.specs.declared.open.Open as Open
 use Rattle.proof_plans.specs.declared.open.Open.TheVariants as open_value
-use Rattle.proof_plans.specs.Runs.{Case, Fire, IsRun, given_lists}
+use Rattle.proof_plans.specs.Runs.{Case, Fire, IsRun, IsEnded, given_lists}
 use Rattle.proof_plans.specs.Barren.{IsTight}
 use Rattle.proof_plans.specs.Plans.{Goal, Plan}
 use Rattle.proof_plans.specs.Embeds.{IsBefore, IsUnder, IsOver, Embeds, ends_in}
@@ -43,6 +43,7 @@ pub record Hope (task : Task) (lent : Context) (most : ℕ) (d : Drafted) : Type
   pub fires : List Fire
   pub run : IsRun task lent fires
   pub tight : IsTight fires
+  pub ended : IsEnded task lent fires
   pub values : List ℕ
   pub indices : List ℕ
   pub left : List End

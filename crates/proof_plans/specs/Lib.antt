@@ -17,5 +17,6 @@ pub mod Creators
 pub mod Repeats
 pub mod Idle
 pub mod Signs
+pub mod Landmarks
 pub mod Taking
 pub mod Verdicts

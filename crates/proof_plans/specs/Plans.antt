@@ -1,7 +1,7 @@
 -- Plans: constraints on a proof that is not known. Elements are variables, told by number: those of
 -- the context from which the proof begins stand for themselves, and each step has further ones for
 -- the variables of its form.
-use Rattle.std.specs.Prelude.{ℕ, ◌+◌, Bool, List, [], ◌∷◌, length, Option}
+use Rattle.std.specs.Prelude.{ℕ, ◌+◌, Bool, List, [], ◌∷◌, Option}
 use Rattle.logic_core.specs.declared.form.Atom.{Atom}
 use Rattle.logic_core.specs.declared.form.Form.{Form}
 use Rattle.vernacular_tree.specs.Contexts.{counted}
@@ -55,7 +55,3 @@ first_plan root = record {
   closed = 0;
   goals = [];
 }
-
--- as many applications as a plan has at least
-abbrev pub cost_of : Plan → ℕ
-cost_of plan = length plan.steps + plan.closed + length plan.branches

@@ -1,5 +1,5 @@
--- Facts that are known to stand before a step, in each proof that has a plan as a part.
-use Rattle.std.specs.Prelude.{ℕ, ◌≡◌, List, [], ◌∷◌, map, slice_get, slice_index, Some}
+-- Facts that are known to stand before a step, or in a branch, in each proof that has a plan as a part.
+use Rattle.std.specs.Prelude.{ℕ, ◌≡◌, List, [], ◌∷◌, map, length, slice_get, slice_index, Some}
 use Rattle.text_core.specs.Lists.{SomeOf, IsAmong}
 use Rattle.logic_core.specs.declared.form.Slot.{Slot}
 use Rattle.logic_core.specs.declared.form.Slot.TheVariants.{Constant}
@@ -7,7 +7,7 @@ use Rattle.logic_core.specs.declared.form.Atom.{Atom}
 use Rattle.vernacular_tree.specs.Contexts.{Task}
 use Rattle.vernacular_tree.specs.declared.context.Context.{Context}
 use Rattle.proof_plans.specs.declared.scene.Scene.{Scene}
-use Rattle.proof_plans.specs.Runs.{Case, Fire, lists_of, Has}
+use Rattle.proof_plans.specs.Runs.{Case, Fire, lists_of, Has, all_facts}
 use Rattle.proof_plans.specs.Embeds.{branch_image}
 use Rattle.proof_plans.specs.Moves.{Agrees}
 use Rattle.proof_plans.specs.Drafts.{Drafted, IsBranch}
@@ -41,6 +41,11 @@ pub record HasSame (d : Drafted) (base : ℕ) (atom : Atom) (other_base : ℕ) (
   pub same : AreSame d base atom other_base fact
 
 module _ (scene : Scene) (d : Drafted) where
+  -- a fact is one of the context
+  abbrev pub IsGiven : ℕ → Atom → Type 0
+  IsGiven base atom = (task : Task) (lent : Context) (n : ℕ) → IsScene task lent scene
+      → (h : Hope task lent n d) → IsAmong (fact_of h.values base atom) (all_facts lent.lines)
+
   -- a fact is one of a case of a branch
   abbrev pub IsInCases : ℕ → Atom → ℕ → Type 0
   IsInCases base atom node = (task : Task) (lent : Context) (n : ℕ) → IsScene task lent scene
@@ -60,3 +65,9 @@ module _ (scene : Scene) (d : Drafted) where
       → (h : Hope task lent n d) (index : ℕ) (fire : Fire) → slice_get h.indices step ≡ Some index
       → slice_get h.fires index ≡ Some fire
       → Has h.fires (fact_of h.values base atom) index fire.branch
+
+  -- a fact stands in a branch behind all applications
+  abbrev pub StandsAt : ℕ → ℕ → Atom → Type 0
+  StandsAt node base atom = (task : Task) (lent : Context) (n : ℕ) → IsScene task lent scene
+      → (h : Hope task lent n d) (branch : List Case) → IsBranch task lent d.nodes node branch
+      → Has h.fires (fact_of h.values base atom) (length h.fires) (branch_image h.values branch)

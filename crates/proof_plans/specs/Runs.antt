@@ -59,6 +59,15 @@ abbrev pub Has : List Fire → Atom → ℕ → List Case → Type 0
 Has fires fact limit branch = SomeOf (λ case. IsAmong fact case.facts) branch
     ⊎ IsMade fires fact limit branch
 
+-- some fact of these does not stand behind all applications, seen from a branch
+abbrev pub IsFresh : List Fire → List Atom → List Case → Type 0
+IsFresh fires facts branch = AllByRecursion (λ fact. Has fires fact (length fires) branch) facts → ⊥
+
+-- the case with which a branch begins says something that does not stand in the branch above
+abbrev pub IsNovel : List Fire → List Case → Type 0
+IsNovel fires [] = Unit {0}
+IsNovel fires (case ∷ upper) = upper ≢ [] → IsFresh fires case.facts upper
+
 -- an element is known before this number, seen from a branch: it is one from the beginning, or a
 -- new one of an application before
 pub record IsNew (fires : List Fire) (element : ℕ) (limit : ℕ) (branch : List Case) : Type 0 where
@@ -141,13 +150,19 @@ module _ (task : Task) (context : Context) where
     IsClosed fires (Cs' line _ branches) branch = (lists : List (List Atom))
         × MaySplit fires lists branch × AreClosed fires branches 0 lists branch
 
-    -- the branches of a split, the first one with this number, are closed
+    -- the branches of a split, the first one with this number, are closed, and each case says
+    -- something new
     pub AreClosed : {n : _} → List Fire → Row_of-Body n → ℕ → List (List Atom) → List Case → Type 0
     AreClosed fires end_of-Body number lists branch = lists ≡ []
     AreClosed fires (more_of-Body steps end rest) number lists branch =
         (facts : List Atom) × (more : List (List Atom)) × (lists ≡ facts ∷ more)
+        × IsFresh fires facts branch
         × IsClosed fires end (record { number = number; facts = facts } ∷ branch)
         × AreClosed fires rest (number + 1) more branch
+
+-- some end closes the branch in which a proof begins
+abbrev pub IsEnded : Task → Context → List Fire → Type 0
+IsEnded task context fires = (end : End) × IsClosed task context fires end (root_of context)
 
 -- the number of ends
 abbrev mutual

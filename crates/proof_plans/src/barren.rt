@@ -9,7 +9,7 @@ ghost use Rattle.vernacular_tree.specs.Contexts.{Task};
 ghost use Rattle.vernacular_tree.specs.declared.context.Context.{Context};
 ghost use Rattle.proof_plans.specs.Hopes.{Hope};
 ghost use Rattle.proof_plans.specs.Scenes.{IsScene};
-ghost use Rattle.proof_plans.specs.Repeats.{AreOne, AreSame, HasSame, IsInCases, IsOfStep, StandsBefore};
+ghost use Rattle.proof_plans.specs.Repeats.{AreOne, AreSame, HasSame, IsGiven, IsInCases, IsOfStep, StandsBefore};
 
 use crate::draft::{Draft, PlanTie};
 use crate::item::{item_at, place_at};
@@ -87,8 +87,8 @@ fn is_in_line(draft: &Draft, read: &Read<'_>, line: &Line) -> bool
 }
 
 /// Whether a fact is one of the context.
-fn is_given(scene: &Scene<'_>, draft: &Draft, read: &Read<'_>) -> bool
-    ensures { OnTrue result ((step : ℕ) → StandsBefore scene.now draft.now step read.now.base read.now.atom.now) }
+pub(crate) fn is_given(scene: &Scene<'_>, draft: &Draft, read: &Read<'_>) -> bool
+    ensures { OnTrue result (IsGiven scene.now draft.now read.now.base read.now.atom.now) }
 {
     for number in 0..scene.lines.len() {
         if let Some(line) = place_at(scene.lines, number)
@@ -101,7 +101,7 @@ fn is_given(scene: &Scene<'_>, draft: &Draft, read: &Read<'_>) -> bool
 }
 
 /// Whether the case with which a branch begins has a fact.
-fn is_in_case(scene: &Scene<'_>, draft: &Draft, read: &Read<'_>, node: u32) -> bool
+pub(crate) fn is_in_case(scene: &Scene<'_>, draft: &Draft, read: &Read<'_>, node: u32) -> bool
     ensures { OnTrue result (IsInCases scene.now draft.now read.now.base read.now.atom.now node) }
 {
     if node == 0 {
@@ -142,7 +142,7 @@ pub(crate) fn only_list(form: &Form) -> Option<&Atoms<Atom>>
 }
 
 /// Whether a fact is one of a step.
-fn is_of_step(scene: &Scene<'_>, draft: &Draft, read: &Read<'_>, step: usize) -> bool
+pub(crate) fn is_of_step(scene: &Scene<'_>, draft: &Draft, read: &Read<'_>, step: usize) -> bool
     ensures { OnTrue result (IsOfStep scene.now draft.now read.now.base read.now.atom.now step) }
 {
     let Some(kept) = item_at(draft.steps(), step) else {

@@ -133,7 +133,7 @@ pub(crate) fn push_if_room<T: Drop>(items: &mut Vec<T>, item: T) -> bool
 }
 
 /// Appends as many numbers in a row, where there is room for them.
-fn count_if_room(items: &mut Vec<u32>, first: usize, count: u32) -> bool
+pub(crate) fn count_if_room(items: &mut Vec<u32>, first: usize, count: u32) -> bool
     ensures { OnTrue result (items.new.items ≡ items.old.items ++ counted first count) }
 {
     for at in 0..count {
@@ -238,6 +238,12 @@ impl Draft {
         ensures { result.now ≡ self.now.ties }
     {
         self.ties.as_slice()
+    }
+
+    pub(crate) fn branches(&self) -> &[u32]
+        ensures { result.now ≡ self.now.branches }
+    {
+        self.branches.as_slice()
     }
 
     /// As many applications as the plan has at least; `None` where there are too many to tell.

@@ -14,6 +14,8 @@ ghost use Rattle.proof_plans.specs.Verdicts.{IsVerdict};
 use crate::draft::{Draft, Node, PlanStep, Room};
 use crate::item::place_at;
 use crate::joining::root;
+use crate::label_table::LabelTable;
+use crate::landmarks::find_landmarks;
 use crate::place::Place;
 use crate::scene::Scene;
 use crate::search::{Work, run};
@@ -32,6 +34,9 @@ const MOST_GOALS: usize = 65_536;
 
 /// The greatest number of ways that wait to be tried.
 const MOST_CHOICES: usize = 1_048_576;
+
+/// The greatest number of forms that every proof is known to need.
+const MOST_LANDMARKS: usize = 64;
 
 /// What a planner says.
 #[derive(Clone, Copy, PartialEq, Eq, Debug)]
@@ -60,6 +65,8 @@ pub enum Element {
 pub struct Planner {
     draft: Draft,
     work: Work,
+    labels: LabelTable,
+    landmarks: Vec<u32>,
 }
 
 impl Planner {
@@ -84,6 +91,8 @@ impl Planner {
                 cut: false,
                 fuel: 0,
             },
+            labels: LabelTable::new(alloc)?,
+            landmarks: Vec::with_capacity(alloc, MOST_LANDMARKS)?,
         })
     }
 
@@ -98,11 +107,15 @@ impl Planner {
         self.work.cut = false;
         self.work.fuel = MOST_PLANS;
         self.work.signs.begin(scene);
+        if !find_landmarks(scene, elements, &mut self.labels, &mut self.landmarks) {
+            return Verdict::Perhaps;
+        }
         if !self.draft.begin(elements) {
             return Verdict::Perhaps;
         }
         if run(
             scene,
+            self.landmarks.as_slice(),
             &mut self.draft,
             &mut self.work,
             within as usize,

@@ -6,6 +6,7 @@ ghost use Rattle.vernacular_tree.specs.Contexts.{Task};
 ghost use Rattle.vernacular_tree.specs.declared.context.Context.{Context};
 ghost use Rattle.proof_plans.specs.Drafts as drafts;
 ghost use Rattle.proof_plans.specs.Hopes.{with_open, IsHopeless};
+ghost use Rattle.proof_plans.specs.Landmarks.{AreLandmarks};
 ghost use Rattle.proof_plans.specs.Scenes.{IsScene};
 
 use crate::barren::has_barren;
@@ -14,6 +15,7 @@ use crate::draft::{Draft, Pair, PlanGoal};
 use crate::finish::may_stand;
 use crate::item::{count, item_at};
 use crate::joining::{Joined, join};
+use crate::landmarks::least_cost;
 use crate::open::{Open, gather, take};
 use crate::pick::{is_standing, next_goal};
 use crate::place::Place;
@@ -21,6 +23,7 @@ use crate::reach::is_out_of_reach;
 use crate::scene::Scene;
 use crate::settle::is_impossible;
 use crate::sign_table::SignTable;
+use crate::useless::has_useless;
 
 /// What a search keeps besides the plan: the ways that are left, room to work out where steps stand,
 /// the signs that may stand in each branch, whether the bound cut something off, and how many more plans it looks at.
@@ -38,6 +41,7 @@ pub(crate) struct Work {
 #[cycle(run)]
 pub(crate) fn run(
     scene: &Scene<'_>,
+    landmarks: &[u32],
     draft: &mut Draft,
     work: &mut Work,
     most: usize,
@@ -47,13 +51,13 @@ pub(crate) fn run(
     ensures draft { OnFalse result (draft.new ≡ draft.old) }
     ensures choices { OnFalse result (work.new.choices.items ≡ work.old.choices.items) }
     ensures hopeless { OnFalse result ((task : Task) (lent : Context) → IsScene task lent scene.now
-        → IsHopeless task lent most work.new.cut draft.old) }
+        → AreLandmarks task lent landmarks.now → IsHopeless task lent most work.new.cut draft.old) }
 {
     if depth == 0 || work.fuel == 0 {
         return true;
     }
     work.fuel -= 1;
-    let Some(cost) = draft.cost() else {
+    let Some(cost) = least_cost(landmarks, draft) else {
         return true;
     };
     if cost > most {
@@ -61,7 +65,7 @@ pub(crate) fn run(
         return false;
     }
     if let Some(pair) = draft.pop_pair() {
-        return take_pair(scene, draft, work, most, depth - 1, pair);
+        return take_pair(scene, landmarks, draft, work, most, depth - 1, pair);
     }
     if is_impossible(draft, &mut work.places) {
         return false;
@@ -69,14 +73,25 @@ pub(crate) fn run(
     if has_barren(scene, draft) {
         return false;
     }
+    if has_useless(scene, draft) {
+        return false;
+    }
     work.signs.update(scene, draft);
     let at = next_goal(scene, draft, &work.signs, cost == most);
     if let Some(goal) = draft.take_goal(at) {
-        return close_goal(scene, draft, work, most, depth - 1, goal) || !draft.put_goal(at, goal);
+        return close_goal(scene, landmarks, draft, work, most, depth - 1, goal)
+            || !draft.put_goal(at, goal);
     }
     if let Some(node) = draft.pop_branch() {
-        return close(scene, draft, work, most, depth - 1, Open::Branch(node))
-            || !draft.push_branch(node);
+        return close(
+            scene,
+            landmarks,
+            draft,
+            work,
+            most,
+            depth - 1,
+            Open::Branch(node),
+        ) || !draft.push_branch(node);
     }
     may_stand(scene, draft, &mut work.places)
 }
@@ -85,6 +100,7 @@ pub(crate) fn run(
 #[cycle(run)]
 fn take_pair(
     scene: &Scene<'_>,
+    landmarks: &[u32],
     draft: &mut Draft,
     work: &mut Work,
     most: usize,
@@ -95,7 +111,7 @@ fn take_pair(
     ensures draft { OnFalse result (draft.new ≡ drafts.with_pair pair draft.old) }
     ensures choices { OnFalse result (work.new.choices.items ≡ work.old.choices.items) }
     ensures hopeless { OnFalse result ((task : Task) (lent : Context) → IsScene task lent scene.now
-        → IsHopeless task lent most work.new.cut (drafts.with_pair pair draft.old)) }
+        → AreLandmarks task lent landmarks.now → IsHopeless task lent most work.new.cut (drafts.with_pair pair draft.old)) }
 {
     match join(
         draft.start(),
@@ -105,13 +121,13 @@ fn take_pair(
         pair.right,
     ) {
         Joined::Clash => !draft.push_pair(pair),
-        Joined::Same => run(scene, draft, work, most, depth) || !draft.push_pair(pair),
+        Joined::Same => run(scene, landmarks, draft, work, most, depth) || !draft.push_pair(pair),
         Joined::Bind { at, to } => {
             let Some(free) = item_at(draft.bound(), at) else {
                 return true;
             };
             draft.bind(at, to);
-            if run(scene, draft, work, most, depth) {
+            if run(scene, landmarks, draft, work, most, depth) {
                 return true;
             }
             draft.bind(at, free);
@@ -125,6 +141,7 @@ fn take_pair(
 #[cycle(run)]
 fn close_goal(
     scene: &Scene<'_>,
+    landmarks: &[u32],
     draft: &mut Draft,
     work: &mut Work,
     most: usize,
@@ -135,15 +152,15 @@ fn close_goal(
     ensures draft { OnFalse result (draft.new ≡ draft.old) }
     ensures choices { OnFalse result (work.new.choices.items ≡ work.old.choices.items) }
     ensures hopeless { OnFalse result ((task : Task) (lent : Context) → IsScene task lent scene.now
-        → IsHopeless task lent most work.new.cut (drafts.with_goal goal draft.old)) }
+        → AreLandmarks task lent landmarks.now → IsHopeless task lent most work.new.cut (drafts.with_goal goal draft.old)) }
 {
     if is_out_of_reach(scene, draft, work.signs.row(goal.node), goal) {
         return false;
     }
     if is_standing(scene, draft, goal) {
-        run(scene, draft, work, most, depth)
+        run(scene, landmarks, draft, work, most, depth)
     } else {
-        close(scene, draft, work, most, depth, Open::Goal(goal))
+        close(scene, landmarks, draft, work, most, depth, Open::Goal(goal))
     }
 }
 
@@ -151,6 +168,7 @@ fn close_goal(
 #[cycle(run)]
 fn close(
     scene: &Scene<'_>,
+    landmarks: &[u32],
     draft: &mut Draft,
     work: &mut Work,
     most: usize,
@@ -161,7 +179,7 @@ fn close(
     ensures draft { OnFalse result (draft.new ≡ draft.old) }
     ensures choices { OnFalse result (work.new.choices.items ≡ work.old.choices.items) }
     ensures hopeless { OnFalse result ((task : Task) (lent : Context) → IsScene task lent scene.now
-        → IsHopeless task lent most work.new.cut (with_open left draft.old)) }
+        → AreLandmarks task lent landmarks.now → IsHopeless task lent most work.new.cut (with_open left draft.old)) }
 {
     let first = count(&work.choices);
     if !gather(scene, draft, &mut work.choices, left) {
@@ -173,7 +191,7 @@ fn close(
         let Some(choice) = item_at(work.choices.as_slice(), at) else {
             return true;
         };
-        if !take(scene, draft, left, choice) || run(scene, draft, work, most, depth) {
+        if !take(scene, draft, left, choice) || run(scene, landmarks, draft, work, most, depth) {
             return true;
         }
         draft.back(mark);

@@ -1,6 +1,7 @@
 use Rattle.std.proofs.Common.{◌≡◌, ◌+◌, ◌*◌, true}
 use Rattle.vernacular_tree.specs.Contexts.{Task}
 use Rattle.vernacular_tree.specs.declared.context.Context.{Context}
+use Rattle.proof_plans.specs.Landmarks.{AreLandmarks}
 use Rattle.proof_plans.specs.Scenes.{IsScene}
 use Rattle.proof_plans.proofs.Tried.{AreRuledOut}
 use Rattle.proof_plans.proofs.search.+run.Given as goal
@@ -24,5 +25,6 @@ invariant-close-loop-at l = record {
   draft : l.draft ≡ l.fn.draft;
   choices : l.work.choices.items ≡ l.initial.work.choices.items;
   ruled : (task : Task) (lent : Context) → IsScene task lent l.scene
+      → AreLandmarks task lent l.landmarks
       → AreRuledOut task lent l.most l.work.cut l.fn.draft l.left l.work.choices.items l.first l.at;
 }
