@@ -26,7 +26,8 @@ use crate::sign_table::SignTable;
 use crate::useless::has_useless;
 
 /// What a search keeps besides the plan: the ways that are left, room to work out where steps stand,
-/// the signs that may stand in each branch, whether the bound cut something off, and how many more plans it looks at.
+/// the signs that may stand in each branch, whether the bound cut something off, and how many more
+/// plans it looks at.
 #[derive(Drop)]
 pub(crate) struct Work {
     pub(crate) choices: Vec<Choice>,
@@ -111,7 +112,8 @@ fn take_pair(
     ensures draft { OnFalse result (draft.new ≡ drafts.with_pair pair draft.old) }
     ensures choices { OnFalse result (work.new.choices.items ≡ work.old.choices.items) }
     ensures hopeless { OnFalse result ((task : Task) (lent : Context) → IsScene task lent scene.now
-        → AreLandmarks task lent landmarks.now → IsHopeless task lent most work.new.cut (drafts.with_pair pair draft.old)) }
+        → AreLandmarks task lent landmarks.now
+        → IsHopeless task lent most work.new.cut (drafts.with_pair pair draft.old)) }
 {
     match join(
         draft.start(),
@@ -152,7 +154,8 @@ fn close_goal(
     ensures draft { OnFalse result (draft.new ≡ draft.old) }
     ensures choices { OnFalse result (work.new.choices.items ≡ work.old.choices.items) }
     ensures hopeless { OnFalse result ((task : Task) (lent : Context) → IsScene task lent scene.now
-        → AreLandmarks task lent landmarks.now → IsHopeless task lent most work.new.cut (drafts.with_goal goal draft.old)) }
+        → AreLandmarks task lent landmarks.now
+        → IsHopeless task lent most work.new.cut (drafts.with_goal goal draft.old)) }
 {
     if is_out_of_reach(scene, draft, work.signs.row(goal.node), goal) {
         return false;

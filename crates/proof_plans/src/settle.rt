@@ -47,7 +47,8 @@ fn settle_one(nodes: &[Node], tie: PlanTie, places: &mut Vec<Place>) -> Settled
     }
 }
 
-/// Takes each tie once.
+/// Takes each tie once, the newest one first: a step before another one is newer most often, so
+/// that a row of steps is followed in one go.
 fn settle_once(nodes: &[Node], ties: &[PlanTie], places: &mut Vec<Place>) -> Settled
     ensures { (task : Task) (lent : Context) (values : List ℕ) (fires : List Fire) (indices : List ℕ)
         (holding : List Tie) → Both (IsTie task lent nodes.now) ties.now holding
@@ -56,7 +57,7 @@ fn settle_once(nodes: &[Node], ties: &[PlanTie], places: &mut Vec<Place>) -> Set
         → IsSettled task lent nodes.now values fires indices places.new.items result }
 {
     let mut settled = Settled::Same;
-    for number in 0..ties.len() {
+    for number in (0..ties.len()).rev() {
         if let Some(tie) = item_at(ties, number) {
             match settle_one(nodes, tie, places) {
                 Settled::Same => {}

@@ -87,6 +87,9 @@ pub(crate) fn leads_to(nodes: &[Node], upper: u32, lower: u32) -> Option<bool>
         → IsBranch task lent nodes.now upper one → IsBranch task lent nodes.now lower other
         → IsEndOf (word_of one) (word_of other) → ⊥ }
 {
+    if upper == 0 || upper == lower {
+        return Some(true);
+    }
     let above = depth(nodes, upper)?;
     let below = depth(nodes, lower)?;
     if above > below {

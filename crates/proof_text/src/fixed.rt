@@ -1,4 +1,5 @@
-ghost use Rattle.std.specs.Prelude.{◌≡◌};
+ghost use Rattle.std.specs.Prelude.{◌≡◌, Some, None, if◌then◌else◌};
+ghost use Rattle.std.specs.Str.{bytes_eq};
 ghost use Rattle.proof_text.specs.Fixed.{fixed_text, keyword_of, dollar_of, is_keyword, same_fixed};
 
 /// A token that has one text.
@@ -70,21 +71,6 @@ pub enum Fixed {
     NotEqual,
 }
 
-const KEYWORDS: [Fixed; 12] = [
-    Fixed::Vernacular,
-    Fixed::Take,
-    Fixed::Mp,
-    Fixed::With,
-    Fixed::New,
-    Fixed::Gives,
-    Fixed::As,
-    Fixed::Efq,
-    Fixed::Gap,
-    Fixed::Cs,
-    Fixed::Case,
-    Fixed::End,
-];
-
 const DOLLAR_WORDS: [Fixed; 8] = [
     Fixed::True,
     Fixed::False,
@@ -96,15 +82,49 @@ const DOLLAR_WORDS: [Fixed; 8] = [
     Fixed::Or,
 ];
 
-/// The keyword with this text.
+/// The keyword with this text. Its first byte leaves one or two of them.
 #[tactic(auto, unfolding(crate::specs::Fixed::keyword_of))]
 pub(crate) fn keyword_of(text: &[u8]) -> Option<Fixed>
     ensures { result ≡ keyword_of text.now }
 {
-    KEYWORDS
-        .iter()
-        .copied()
-        .find(|word| text == fixed_text(*word))
+    let Some(first) = text.first() else {
+        return None;
+    };
+    match *first {
+        b'v' => only(text, Fixed::Vernacular),
+        b't' => only(text, Fixed::Take),
+        b'm' => only(text, Fixed::Mp),
+        b'w' => only(text, Fixed::With),
+        b'n' => only(text, Fixed::New),
+        b'g' => either(text, Fixed::Gives, Fixed::Gap),
+        b'a' => only(text, Fixed::As),
+        b'e' => either(text, Fixed::Efq, Fixed::End),
+        b'c' => either(text, Fixed::Cs, Fixed::Case),
+        _ => None,
+    }
+}
+
+// The word, where this is its text.
+fn only(text: &[u8], word: Fixed) -> Option<Fixed>
+    ensures { result ≡ (if bytes_eq text.now (fixed_text word) then Some word else None) }
+{
+    if text == fixed_text(word) {
+        Some(word)
+    } else {
+        None
+    }
+}
+
+// One of two words, where this is its text.
+fn either(text: &[u8], word: Fixed, other: Fixed) -> Option<Fixed>
+    ensures { result ≡ (if bytes_eq text.now (fixed_text word) then Some word else
+        (if bytes_eq text.now (fixed_text other) then Some other else None)) }
+{
+    if text == fixed_text(word) {
+        Some(word)
+    } else {
+        only(text, other)
+    }
 }
 
 /// The word behind a dollar with this text.

@@ -1,4 +1,5 @@
 pub mod Names
+pub mod NameBytes
 pub mod NameTexts
 pub mod Lists
 pub mod Exact

@@ -1,5 +1,5 @@
 -- Which texts may be names, and which of them name variables.
-use Rattle.std.specs.Prelude.{ℕ, ◌≤◌, Bool, [], ◌∷◌}
+use Rattle.std.specs.Prelude.{◌≤◌, Bool, [], ◌∷◌}
 use Rattle.text_core.specs.Names.{Text, is_upper, is_word_from}
 
 -- each byte is printable ASCII, from the blank to the tilde

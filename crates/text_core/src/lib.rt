@@ -7,6 +7,7 @@ mod limits;
 mod list;
 mod memory;
 mod name;
+mod name_bytes;
 
 pub use byte::{
     are_digits, are_word_bytes, begins_with, is_digit, is_lower, is_lower_word, is_printable,

@@ -5,6 +5,9 @@ use crate::memory::Memory;
 use std::alloc::Global;
 use std::marker::Model;
 
+/// How many items the first push makes room for: most lists stay as short.
+const FEW: usize = 2;
+
 /// A list that grows at its end. Contracts see the list of its items, so that a copy equals its
 /// source.
 #[derive(Debug, Drop)]
@@ -81,6 +84,9 @@ impl<T: Drop> List<T> {
         ensures ok { OnOk result (self.new ≡ self.old ++ item ∷ []) }
         ensures err { OnErr result (self.new ≡ self.old) }
     {
+        if self.items.is_empty() {
+            self.items.reserve_exact(FEW)?;
+        }
         self.items.push(item)?;
         Ok(())
     }

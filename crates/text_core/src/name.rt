@@ -6,8 +6,8 @@ ghost use Rattle.std.specs.Hash as fed;
 ghost use Rattle.std.proofs.Common.{rules, nat_eq};
 ghost use Rattle.text_core.specs.NameTexts.{IsNameText};
 
-use crate::list::Bytes;
 use crate::memory::Memory;
+use crate::name_bytes::NameBytes;
 use std::alloc::Global;
 use std::hash::{Hash, Hasher};
 use std::marker::Model;
@@ -16,18 +16,19 @@ use std::marker::Model;
 /// more bytes of printable ASCII, from 32 to 126. Contracts see the list of its bytes.
 #[derive(Debug, Drop)]
 pub struct Name {
-    bytes: Bytes,
+    bytes: NameBytes,
 }
 
 impl Model for Name {
     ghost use Rattle.std.specs.Prelude.{List, ℕ};
     ghost use Rattle.text_core.specs.NameTexts.{IsNameText};
+    ghost use Rattle.text_core.specs.NameBytes.{bytes_of};
 
     ghost Value = { List ℕ };
 
-    ghost view = { λ n. n.bytes };
+    ghost view = { λ n. bytes_of n.bytes };
 
-    ghost invariant = { λ n. IsNameText n.bytes };
+    ghost invariant = { λ n. IsNameText (bytes_of n.bytes) };
 }
 
 impl Name {
@@ -38,7 +39,7 @@ impl Name {
         ensures { IfOk result (λ name. name ≡ bytes.now) }
     {
         Ok(Name {
-            bytes: Bytes::from_slice(alloc, bytes)?,
+            bytes: NameBytes::from_slice(alloc, bytes)?,
         })
     }
 
@@ -55,7 +56,7 @@ impl Name {
         ensures { IfOk result (λ name. name ≡ self.now) }
     {
         Ok(Name {
-            bytes: Bytes::from_slice(alloc, self.bytes.as_slice())?,
+            bytes: NameBytes::from_slice(alloc, self.bytes.as_slice())?,
         })
     }
 }

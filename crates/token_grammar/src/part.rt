@@ -65,8 +65,9 @@ pub trait Part: Copy {
 pub fn expand<P: Copy>(stack: &mut Vec<P>, row: &[P]) -> Result<Step, Memory>
     ensures { IfOk result (λ step. IsExpand step row.now stack.old.items stack.new.items) }
 {
+    stack.reserve(row.len())?;
     for number in (0..row.len()).rev() {
-        stack.push(row[number])?;
+        stack.push_reserved(row[number]);
     }
     Ok(Step::Expand)
 }

@@ -1,6 +1,8 @@
-ghost use Rattle.std.specs.Prelude.{◌≡◌, List};
-ghost use Rattle.tptp_lexer.specs.declared.kind.Kind.TheVariants.{Upper};
+ghost use Rattle.std.specs.Prelude.{◌≡◌, List, if◌then◌else◌};
+ghost use Rattle.std.specs.Str.{bytes_eq};
+ghost use Rattle.tptp_lexer.specs.declared.kind.Kind.TheVariants.{Lower, Upper};
 ghost use Rattle.tptp_lexer.specs.Tokens.{Token};
+ghost use Rattle.tptp_grammar.specs.declared.mark.Mark.TheVariants.{Other};
 ghost use Rattle.tptp_grammar.specs.Marks.{lower_mark, dollar_mark, marked};
 ghost use Rattle.tptp_grammar.specs.Parts.{is_kind, is_lower, is_word, is_name, is_upper, is_plain};
 
@@ -92,19 +94,32 @@ pub(crate) fn mark_of(kind: Kind, text: &[u8]) -> Mark
     }
 }
 
-// The mark of a lower word.
+// The mark of a lower word. Its first byte tells that most words are no special ones.
+#[tactic(auto, unfolding(crate::specs::RoleWords::role_of))]
 fn lower_mark(text: &[u8]) -> Mark
     ensures { result ≡ lower_mark text.now }
 {
-    if text == b"fof".as_slice() {
-        Mark::Fof
-    } else if text == b"include".as_slice() {
-        Mark::Include
-    } else {
-        match role_of(text) {
+    let Some(first) = text.first() else {
+        return Mark::Other(Kind::Lower);
+    };
+    match *first {
+        b'f' => mark_or(text, b"fof", Mark::Fof),
+        b'i' => mark_or(text, b"include", Mark::Include),
+        _ => match role_of(text) {
             Some(role) => Mark::Role(role),
             None => Mark::Other(Kind::Lower),
-        }
+        },
+    }
+}
+
+// A mark, where the word is this one, and else that of a lower word that is not special.
+fn mark_or(text: &[u8], word: &[u8], mark: Mark) -> Mark
+    ensures { result ≡ (if bytes_eq text.now word.now then mark else Other Lower) }
+{
+    if text == word {
+        mark
+    } else {
+        Mark::Other(Kind::Lower)
     }
 }
 

@@ -26,3 +26,14 @@ loop-name-preserved c =
       len = let was = at.invariant.len in let gone = c.in-Some.ensures.steps.1 in let short = ap length steps in omega arith;
       kept = one_left (is_selected (selections_of c.args.self.now)) at.names.keys at.yielded name at.invariant.kept (sym c.has.ensures ∙ c.if-has.false);
     }
+
+pub loop-name-preserved-else-has : goal.loop-name-preserved-else-has
+loop-name-preserved-else-has c =
+    let at = c.loop-name in
+    let name = c.in-Some.name in
+    let steps : into_iter_items at.name-iterator ≡ name ∷ into_iter_items c.next.new.self = c.in-Some.ensures.steps.0 in
+    record {
+      rest = append_assoc at.yielded (name ∷ []) _ ∙ rw (← steps) at.invariant.rest;
+      len = let was = at.invariant.len in let gone = c.in-Some.ensures.steps.1 in let short = ap length steps in omega arith;
+      kept = one_left (is_selected (selections_of c.args.self.now)) at.names.keys at.yielded name at.invariant.kept (sym c.has.ensures ∙ c.if-has.false);
+    }
